@@ -10,7 +10,9 @@ use Rattle.item_step.specs.Running.{Running}
 use Rattle.launches.specs.Groups.{IsRunnable, filled, launch_in}
 use Rattle.launches.specs.declared.loaded.LoadedLaunch.{LoadedLaunch}
 use Rattle.replay.proofs.Reaching.{map_map, never_reaches}
-use Rattle.spaces.specs.Buffers.{bytes_in}
+use Rattle.clmodel.specs.Cells.{held_cells}
+use Rattle.launches.proofs.Filled.{filled_in}
+use Rattle.spaces.specs.Buffers.{bytes_in, flags_in}
 use Rattle.fault_play.specs.Marks.{Lead, events_in}
 use Rattle.replay.specs.Spots.{Finds, IsPairOf}
 use Rattle.replay.specs.States.{IsAt}
@@ -35,13 +37,14 @@ mark_schedule-requires c =
 pub new-requires-clause-runnable : goal.new-requires-clause-runnable
 new-requires-clause-runnable c =
     let same = ap₂ (λ x b. launch_in (setup_of x) b) c.new-loaded.ensures.launch c.new-loaded.ensures.buffers in
-    subst IsRunnable (sym same) (c.setups_are_runnable.ensures (setup_of c.args.launch.now) (bytes_in c.args.buffers.now) c.group_count-groups.ensures.some c.requires)
+    subst IsRunnable (sym same) (c.setups_are_runnable.ensures (setup_of c.args.launch.now) c.args.buffers.now c.group_count-groups.ensures.some c.requires)
 
 pub new-requires-clause-filled : goal.new-requires-clause-filled
 new-requires-clause-filled c =
     let same = ap₂ (λ x b. launch_in (setup_of x) b) c.new-loaded.ensures.launch c.new-loaded.ensures.buffers in
-    let bytes = bytes_in c.args.buffers.now in
-    c.in_ok-memory.ensures ∙ ap (map (λ name. map Some (bytes name))) c.buffer_names.ensures ∙ map_map (map Some) bytes (buffer_names (setup_of c.args.launch.now)) ∙ ap filled (sym same)
+    let buffers = c.args.buffers.now in
+    c.in_ok-memory.ensures ∙ ap (map (λ name. held_cells (bytes_in buffers name) (flags_in buffers name))) c.buffer_names.ensures
+    ∙ sym (filled_in (setup_of c.args.launch.now) buffers) ∙ ap filled (sym same)
 
 pub returns-then-not-branch-clause-none : goal.returns-then-not-branch-clause-none
 returns-then-not-branch-clause-none c = λ other.

@@ -1,4 +1,4 @@
-use Rattle.std.proofs.Common.{◌≡◌, ◌<◌, ℕ, List, Some, length, take, map, ◌∙◌, subst, arith}
+use Rattle.std.proofs.Common.{◌≡◌, ◌<◌, ℕ, List, Some, length, take, map, ◌∙◌, refl, subst, arith}
 use Rattle.std.specs.Prelude.{slice_get}
 use denote.Bor.{Bor}
 use Rattle.std.proofs.lemmas.List.{take_all}
@@ -31,8 +31,6 @@ pub loop-place-init : goal.loop-place-init
 loop-place-init g c =
     let rows = map (λ (row : Bor (List ℕ)). row.now) c.args.rows.now in
     record { many = refl; changed = changed_none (all_with_changes rows c.args.cleared.now) }
-  where
-    use Rattle.std.proofs.Common.{refl}
 
 pub returns-clause-changed : goal.returns-clause-changed
 returns-clause-changed g c =

@@ -1,8 +1,7 @@
 use Rattle.std.proofs.Common.{◌≡◌, ◌+◌, ◌-◌, ◌/◌, ◌==◌, ◌&&◌, not, true, false, ◌∙◌, sym, ap, subst, arith}
 use Rattle.std.proofs.lemmas.Bool.{and_parts}
 use Rattle.clmodel.specs.Cells.{covers}
-use Rattle.clmodel.proofs.CellLaws.{covers_parts}
-use Rattle.clmodel.proofs.Steps.{decided}
+use Rattle.clmodel.proofs.CellLaws.{covers_from}
 use Rattle.spaces.specs.Overlay.{copies, IsCopied}
 use Rattle.spaces.specs.Parts.{unset_in}
 use Rattle.spaces.proofs.Parts.{later_covers, cleared_both, nothing_covered}
@@ -12,12 +11,7 @@ pub returns-then-count-eq0-clause-cleared : goal.returns-then-count-eq0-clause-c
 returns-then-count-eq0-clause-cleared t c byte = nothing_covered (unset_in c.args.self.now byte) c.args.first c.args.count byte (omega (arith, c.if-count-eq0.true))
 
 pub clear_one-requires : goal.clear_one-requires
-clear_one-requires t c marked = c.requires.copied c.args.first (first_covered c.args.first c.args.count (omega (arith, c.if-count-eq0.false))) marked
-  where
-    use Rattle.std.proofs.Common.{ℕ, ◌<◌}
-    use Rattle.clmodel.proofs.CellLaws.{covers_from}
-    first_covered : (first count : ℕ) → 0 < count → covers first count first ≡ true
-    first_covered first count some = covers_from first count first (omega arith) (omega (arith, some))
+clear_one-requires t c marked = c.requires.copied c.args.first (covers_from c.args.first c.args.count c.args.first (omega arith) (omega (arith, c.if-count-eq0.false))) marked
 
 pub clear-requires-clause-copied : goal.clear-requires-clause-copied
 clear-requires-clause-copied t c byte covered marked =

@@ -1,5 +1,5 @@
 use Rattle.std.proofs.Common.{◌≡◌, ◌<◌, ◌/◌, true, length, ◌∙◌, sym, ap, subst, arith}
-use Rattle.spaces.specs.Overlay.{copies, IsCopied}
+use Rattle.spaces.specs.Overlay.{copies, overlaid_cells, IsCopied}
 use Rattle.spaces.specs.Parts.{unset_in, is_marked}
 use Rattle.spaces.proofs.Parts.{marked_there, one_cleared, none_cleared}
 use Rattle.spaces.proofs.flags.Flags.clear_one.Goals as goal
@@ -22,12 +22,7 @@ returns-then-is_unset-clause-cleared c other =
     let new = c.put_by_bytes.new.self in
     ap (λ z. is_marked old.row.now (copies z) new.cells.items other) c.put_by_bytes.ensures.same_table
     ∙ one_cleared old.row.now (copies old.pages.table) old.pages.cells.items new.cells.items c.args.byte
-    (λ k. ap (λ z. overlaid_of old.row.now z new.cells.items k) (sym c.put_by_bytes.ensures.same_table) ∙ c.put_by_bytes.ensures.bytes k) other
-  where
-    use Rattle.std.proofs.Common.{ℕ, List, Option}
-    use Rattle.spaces.specs.Overlay.{PageCounts, overlaid_cells}
-    overlaid_of : List ℕ → PageCounts → List ℕ → ℕ → Option ℕ
-    overlaid_of row table cells k = overlaid_cells row (copies table) cells k
+    (λ k. ap (λ z. overlaid_cells old.row.now (copies z) new.cells.items k) (sym c.put_by_bytes.ensures.same_table) ∙ c.put_by_bytes.ensures.bytes k) other
 
 pub returns-else-is_unset-clause-cleared : goal.returns-else-is_unset-clause-cleared
 returns-else-is_unset-clause-cleared c other =

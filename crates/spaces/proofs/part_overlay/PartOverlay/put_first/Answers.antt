@@ -1,4 +1,4 @@
-use Rattle.std.proofs.Common.{◌≡◌, ◌+◌, ◌≤◌, length, None, ◌∙◌, sym, ap, subst, arith}
+use Rattle.std.proofs.Common.{◌≡◌, ◌+◌, ◌≤◌, ◌&&◌, not, ap₂, length, None, ◌∙◌, sym, ap, subst, arith}
 use Rattle.clmodel.specs.Cells.{masked, byte_count, covers}
 use Rattle.spaces.specs.Overlay.{copies, IsCopied}
 use Rattle.spaces.specs.Parts.{unset_in}
@@ -54,11 +54,7 @@ returns-clause-changed c =
     let count = byte_count c.args.width in
     let n : c.bytes.result ≡ count = c.bytes.ensures.value in
     seen_put c.args.self.now o.overlay.base o.flags.row.now (unset_in o.flags) o.overlay.bytes c.self.view_is (unset_in c.clear.new.self) c.put.new.self.bytes c.args.at count c.args.value c.in_ok-put.ensures.changed
-    (λ byte. c.clear.ensures.cleared byte ∙ cleared_at (unset_in c.prepare.new.self byte) (unset_in o.flags byte) c.args.at c.bytes.result count byte (c.prepare.ensures.same byte) n)
-  where
-    use Rattle.std.proofs.Common.{ℕ, Bool, ◌&&◌, not, ap₂}
-    cleared_at : (a b : Bool) (at n m byte : ℕ) → a ≡ b → n ≡ m → (a && not (covers at n byte)) ≡ (b && not (covers at m byte))
-    cleared_at a b at n m byte p q = ap₂ (λ x y. x && not (covers at y byte)) p q
+    (λ byte. c.clear.ensures.cleared byte ∙ ap₂ (λ x y. x && not (covers c.args.at y byte)) (c.prepare.ensures.same byte) n)
 
 pub returns-clause-base : goal.returns-clause-base
 returns-clause-base c = c.put.ensures.lent ∙ ap (λ z. z.base) c.self.view_is
