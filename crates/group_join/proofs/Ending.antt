@@ -16,9 +16,8 @@ use Rattle.launches.specs.Groups.{HasGroups, launch_in}
 use Rattle.access_list.specs.Log.{Log}
 use Rattle.access_list.specs.declared.log.Entry.{Entry}
 use Rattle.group_join.specs.Launches.{Followed, AreResults, IsShortResult, AreResultsTo}
-use Rattle.spaces.specs.Buffers.{Held}
 use Rattle.spaces.specs.Changes.{all_with_changes}
-use Rattle.spaces.specs.Tables.{Table}
+use Rattle.spaces.specs.declared.buffers.Buffers.{Buffers}
 use Rattle.group_join.specs.Ends.{all_cells, EndsAs}
 use Rattle.group_join.specs.Laws.{JoiningLaws}
 use Rattle.group_join.specs.JoinedGroups.{contents_of, rows_of, unset_of, HoldsGroups, IsStopped, CameOfNext}
@@ -31,7 +30,7 @@ use Rattle.group_join.proofs.Listed.{short_whole}
 
 -- ---- how many groups there are
 
-pub grouped_of : (setup : Setup) (buffers : Table Held) → HasGroups setup → 0 < group_items setup.range → IsGrouped (launch_in setup buffers)
+pub grouped_of : (setup : Setup) (buffers : Buffers) → HasGroups setup → 0 < group_items setup.range → IsGrouped (launch_in setup buffers)
 grouped_of setup buffers has some = record { some = some; whole = has.whole }
 
 pub below_there : (group groups size items : ℕ) → groups * size ≡ items → 0 < size → group < groups → group * size < items

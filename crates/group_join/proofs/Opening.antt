@@ -5,8 +5,8 @@ use Rattle.std.proofs.lemmas.List.{length-map}
 use Rattle.clmodel.specs.Cells.{is_flagged}
 use Rattle.clmodel.specs.Setup.{Setup, buffer_names}
 use Rattle.launches.specs.Groups.{launch_in}
-use Rattle.spaces.specs.Buffers.{Held, bytes_in, flags_in}
-use Rattle.spaces.specs.Tables.{Table}
+use Rattle.spaces.specs.Buffers.{bytes_in, flags_in}
+use Rattle.spaces.specs.declared.buffers.Buffers.{Buffers}
 use Rattle.group_join.specs.Changes.{buffer_at}
 use Rattle.group_join.specs.Ends.{flags_of}
 use Rattle.group_join.specs.Memory.{AreFlags}
@@ -17,7 +17,7 @@ named_at f h [] n byte b = absurd (omega (arith, b))
 named_at f h (name ∷ names) zero byte b = refl
 named_at f h (name ∷ names) (suc n) byte b = named_at f h names n byte b
 
-pub flags_are : (setup : Setup) (buffers : Table Held) → AreFlags (launch_in setup buffers) (flags_of setup buffers)
+pub flags_are : (setup : Setup) (buffers : Buffers) → AreFlags (launch_in setup buffers) (flags_of setup buffers)
 flags_are setup buffers =
     record {
       many = length-map (buffer_names setup) (flags_in buffers) ∙ sym (length-map (buffer_names setup) (bytes_in buffers));

@@ -8,9 +8,9 @@ use Rattle.clmodel.specs.Run.{State, Events, left}
 use Rattle.clmodel.specs.Setup.{Setup, buffer_names}
 use Rattle.clmodel.specs.declared.outcome.Outcome.TheVariants as outcome
 use Rattle.launches.specs.Groups.{launch_in}
-use Rattle.spaces.specs.Buffers.{Held, flags_in}
+use Rattle.spaces.specs.Buffers.{flags_in}
 use Rattle.spaces.specs.Changes.{all_with_changes}
-use Rattle.spaces.specs.Tables.{Table}
+use Rattle.spaces.specs.declared.buffers.Buffers.{Buffers}
 use Rattle.group_join.specs.declared.launch_end.LaunchEnd.{LaunchEnd}
 use Rattle.group_join.specs.declared.launch_end.LaunchEnd.TheVariants.{Clean, Faulted}
 
@@ -29,9 +29,9 @@ EndsAs launch flags (Clean bytes cleared) =
 EndsAs launch flags (Faulted fault schedule) = Concludes launch (outcome.Faulted fault schedule)
 
 -- the flags of the buffers that a setup names, in the order of their numbers (5.2.1)
-abbrev pub flags_of : Setup → Table Held → List (List ℕ)
+abbrev pub flags_of : Setup → Buffers → List (List ℕ)
 flags_of setup buffers = map (flags_in buffers) (buffer_names setup)
 
 -- the launch of a setup on these buffers ends so (3.2)
-abbrev pub EndsIn : Setup → Table Held → LaunchEnd → Type 0
+abbrev pub EndsIn : Setup → Buffers → LaunchEnd → Type 0
 EndsIn setup buffers = EndsAs (launch_in setup buffers) (flags_of setup buffers)

@@ -9,8 +9,8 @@ use Rattle.clmodel.specs.Run.{initial}
 use Rattle.clmodel.specs.declared.access.Region.TheVariants as region
 use Rattle.clmodel.specs.Setup.{Setup, buffer_names}
 use Rattle.clmodel.proofs.Steps.{none_some, some_inj, if_false}
-use Rattle.spaces.specs.Buffers.{Held, bytes_in, flags_in, is_unset_in}
-use Rattle.spaces.specs.Tables.{Table}
+use Rattle.spaces.specs.Buffers.{bytes_in, flags_in, is_unset_in}
+use Rattle.spaces.specs.declared.buffers.Buffers.{Buffers}
 use Rattle.launches.specs.Groups.{cells_from_start, buffers_from_start, filled, launch_in}
 use Rattle.launches.specs.Objects.{SpacesHold}
 
@@ -99,7 +99,7 @@ cells_masked : (unset : ℕ → Bool) (byte : ℕ) (bytes : List ℕ) → cells_
 cells_masked unset byte [] = refl
 cells_masked unset byte (b ∷ bytes) = ap (λ xs. (if unset byte then None else Some b) ∷ xs) (cells_masked unset (suc byte) bytes)
 
-module _ (buffers : Table Held) (names : List (List ℕ)) where
+module _ (buffers : Buffers) (names : List (List ℕ)) where
   filled_from : (number : ℕ) (rest : List (List ℕ)) → ((k : ℕ) → slice_index_or names (number + k) [] ≡ slice_index_or rest k [])
       → buffers_from_start (λ n. is_unset_in buffers (slice_index_or names n [])) number (map (bytes_in buffers) rest) ≡ map (λ name. held_cells (bytes_in buffers name) (flags_in buffers name)) rest
   filled_from number [] h = refl
@@ -109,5 +109,5 @@ module _ (buffers : Table Held) (names : List (List ℕ)) where
       ∙ ap (λ z. masked (is_unset_in buffers z) 0 (map Some (bytes_in buffers name))) (ap (λ n. slice_index_or names n []) {x = number} {y = number + 0} (omega arith) ∙ h 0))
       (filled_from (suc number) rest (λ k. ap (λ n. slice_index_or names n []) {x = suc number + k} {y = number + suc k} (omega arith) ∙ h (suc k)))
 
-pub filled_in : (setup : Setup) (buffers : Table Held) → filled (launch_in setup buffers) ≡ map (λ name. held_cells (bytes_in buffers name) (flags_in buffers name)) (buffer_names setup)
+pub filled_in : (setup : Setup) (buffers : Buffers) → filled (launch_in setup buffers) ≡ map (λ name. held_cells (bytes_in buffers name) (flags_in buffers name)) (buffer_names setup)
 filled_in setup buffers = filled_from buffers (buffer_names setup) 0 (buffer_names setup) (λ k. ap (λ n. slice_index_or (buffer_names setup) n []) {x = 0 + k} {y = k} (omega arith))

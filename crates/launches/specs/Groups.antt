@@ -4,11 +4,11 @@ use Rattle.clmodel.specs.Launch.{Launch}
 use Rattle.clmodel.specs.Law.{IsBounded}
 use Rattle.clmodel.specs.Next.{launch_on}
 use Rattle.clmodel.specs.Setup.{Setup, item_count, group_items}
-use Rattle.spaces.specs.Buffers.{Held, bytes_in, is_unset_in}
-use Rattle.spaces.specs.Tables.{Table}
+use Rattle.spaces.specs.Buffers.{bytes_in, is_unset_in}
+use Rattle.spaces.specs.declared.buffers.Buffers.{Buffers}
 
 -- the launch of a setup on buffers that are found by their names (3.2, 5.8)
-abbrev pub launch_in : Setup → Table Held → Launch
+abbrev pub launch_in : Setup → Buffers → Launch
 launch_in setup buffers = launch_on setup (bytes_in buffers) (is_unset_in buffers)
 
 -- a setup of whole work-groups, of items whose numbers have 32 bits, as has the budget of each (own; 5.8 asks for whole
@@ -28,7 +28,7 @@ pub record IsRunnable (launch : Launch) : Type 0 where
 
 -- a setup whose groups have items and are whole and few is runnable on any buffers (own, on 5.8)
 abbrev pub SetupsAreRunnable : Type 0
-SetupsAreRunnable = (setup : Setup) (buffers : Table Held) → 0 < group_items setup.range → HasGroups setup → IsRunnable (launch_in setup buffers)
+SetupsAreRunnable = (setup : Setup) (buffers : Buffers) → 0 < group_items setup.range → HasGroups setup → IsRunnable (launch_in setup buffers)
 
 -- what a buffer holds at the start from a byte on, where `unset` says of each whether it has no value (5.2.1, C99 6.7.8)
 abbrev pub cells_from_start : (ℕ → Bool) → ℕ → List ℕ → List (Option ℕ)

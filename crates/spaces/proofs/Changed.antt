@@ -6,7 +6,6 @@ use Rattle.std.proofs.lemmas.Bool.{cases_lt, cases_eq}
 use Rattle.std.proofs.lemmas.List.{get_or-take, get_or-drop, get_or_append_left, get_or-append_right, length-take, length-drop, drop_all}
 use Rattle.clmodel.specs.Cells.{Cells, cells_of, written}
 use Rattle.clmodel.proofs.CellLaws.{cells_some}
-use Rattle.spaces.specs.Buffers.{Held}
 use Rattle.spaces.specs.Changes.{Changed, with_changes, table_with_changes}
 use Rattle.spaces.specs.Overlay.{PageCounts, overlaid_byte, overlaid, copies, IsCopied, AreNumbered}
 use Rattle.spaces.specs.Space.{Becomes}
@@ -209,23 +208,15 @@ all_written base counts numbers cells written now numbered all h = told now (ove
 
 -- ---- buffers by their names
 
-no_bytes_left : (table : Table Held) (names : List (List ℕ)) (flags : List Changed) → table_with_changes table names [] flags ≡ table
-no_bytes_left table [] flags = refl
-no_bytes_left table (name ∷ names) flags = refl
-
-no_flags_left : (table : Table Held) (names : List (List ℕ)) (bytes : List Changed) → table_with_changes table names bytes [] ≡ table
-no_flags_left table [] bytes = refl
-no_flags_left table (name ∷ names) [] = refl
-no_flags_left table (name ∷ names) (one ∷ bytes) = refl
+no_changes_left : (table : Table (List ℕ)) (names : List (List ℕ)) → table_with_changes table names [] ≡ table
+no_changes_left table [] = refl
+no_changes_left table (name ∷ names) = refl
 
 pub changes_done :
-    (table : Table Held) (names : List (List ℕ)) (bytes flags : List Changed) (place : ℕ) → (length names ≤ place) ⊎ ((length bytes ≤ place) ⊎ (length flags ≤ place))
-    → table_with_changes table (drop place names) (drop place bytes) (drop place flags) ≡ table
-changes_done table names bytes flags place (inl h) = ap (λ ns. table_with_changes table ns (drop place bytes) (drop place flags)) (drop_all place names h)
-changes_done table names bytes flags place (inr (inl h)) =
-    ap (λ bs. table_with_changes table (drop place names) bs (drop place flags)) (drop_all place bytes h) ∙ no_bytes_left table (drop place names) (drop place flags)
-changes_done table names bytes flags place (inr (inr h)) =
-    ap (table_with_changes table (drop place names) (drop place bytes)) (drop_all place flags h) ∙ no_flags_left table (drop place names) (drop place bytes)
+    (table : Table (List ℕ)) (names : List (List ℕ)) (changes : List Changed) (place : ℕ) → (length names ≤ place) ⊎ (length changes ≤ place)
+    → table_with_changes table (drop place names) (drop place changes) ≡ table
+changes_done table names changes place (inl h) = ap (λ ns. table_with_changes table ns (drop place changes)) (drop_all place names h)
+changes_done table names changes place (inr h) = ap (table_with_changes table (drop place names)) (drop_all place changes h) ∙ no_changes_left table (drop place names)
 
 pub either_done : (names changes place : ℕ) → min names changes ≤ place → (names ≤ place) ⊎ (changes ≤ place)
 either_done names changes place h = go (cases_lt place names)
@@ -233,14 +224,3 @@ either_done names changes place h = go (cases_lt place names)
     go : (place < names) ⊎ (names ≤ place) → (names ≤ place) ⊎ (changes ≤ place)
     go (inl a) = inr (omega (arith, a, h))
     go (inr a) = inl a
-
-pub any_done : (names bytes flags place : ℕ) → min (min names bytes) flags ≤ place → (names ≤ place) ⊎ ((bytes ≤ place) ⊎ (flags ≤ place))
-any_done names bytes flags place h = go (either_done (min names bytes) flags place h)
-  where
-    first : (names ≤ place) ⊎ (bytes ≤ place) → (names ≤ place) ⊎ ((bytes ≤ place) ⊎ (flags ≤ place))
-    first (inl a) = inl a
-    first (inr a) = inr (inl a)
-
-    go : (min names bytes ≤ place) ⊎ (flags ≤ place) → (names ≤ place) ⊎ ((bytes ≤ place) ⊎ (flags ≤ place))
-    go (inl a) = first (either_done names bytes place a)
-    go (inr a) = inr (inr a)

@@ -254,20 +254,20 @@ pub masked_same : (unset other : ℕ → Bool) (cells : List (Option ℕ)) → (
 masked_same unset other cells h = ap (λ z. masked z 0 cells) (fun_ext h)
 
 -- a part overlay's bytes, by its parts
-module _ (o : Parted) (base row : List ℕ) (unset : ℕ → Bool) (cells : List (Option ℕ)) (is : record { base = base; row = row; bytes = masked unset 0 cells } ≡ o) where
+module _ (o : Parted) (base row : List ℕ) (unset : ℕ → Bool) (cells : List (Option ℕ)) (is : o ≡ record { base = base; row = row; bytes = masked unset 0 cells }) where
   pub seen_many : length o.bytes ≡ length cells
-  seen_many = ap (λ z. length z.bytes) (sym is) ∙ masked_many unset 0 cells
+  seen_many = ap (λ (z : Parted). length z.bytes) is ∙ masked_many unset 0 cells
 
   pub seen_lowest : (at count : ℕ) → ((byte : ℕ) → byte < length cells → (value : ℕ) × (cells_of cells byte ≡ Some value)) → at + count ≤ length o.bytes
       → lowest_unset (cells_of o.bytes) at count ≡ lowest_marked unset at count
   seen_lowest at count set inside =
-      ap (λ (z : Parted). lowest_unset (cells_of z.bytes) at count) (sym is)
+      ap (λ (z : Parted). lowest_unset (cells_of z.bytes) at count) is
       ∙ ap (λ (c : Cells). lowest_unset c at count) (cells_left unset cells)
       ∙ lowest_left unset (cells_of cells) at count (λ byte a b. set byte (omega (arith, b, inside, seen_many)))
 
   pub seen_number : (at count value : ℕ) → lowest_marked unset at count ≡ None → number (cells_of cells) at count ≡ Some value → number (cells_of o.bytes) at count ≡ Some value
   seen_number at count value none h =
-      ap (λ (z : Parted). number (cells_of z.bytes) at count) (sym is)
+      ap (λ (z : Parted). number (cells_of z.bytes) at count) is
       ∙ ap (λ (c : Cells). number c at count) (cells_left unset cells)
       ∙ number_left unset (cells_of cells) at count none
       ∙ h
@@ -282,7 +282,7 @@ module _ (o : Parted) (base row : List ℕ) (unset : ℕ → Bool) (cells : List
             ap (λ (c : Cells). c byte) (cells_left other new)
             ∙ written_left unset other (cells_of cells) (cells_of new) at count value b.cells_are cleared byte
             ∙ ap (λ (c : Cells). written c at count value byte) (sym (cells_left unset cells))
-            ∙ ap (λ (z : Parted). written (cells_of z.bytes) at count value byte) is;
+            ∙ ap (λ (z : Parted). written (cells_of z.bytes) at count value byte) (sym is);
       }
 
 -- no byte is one of none

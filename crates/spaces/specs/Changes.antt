@@ -2,7 +2,7 @@
 use Rattle.std.specs.Prelude.{ℕ, List, [], ◌∷◌, length, map}
 use Rattle.std.specs.List.{range_with_len}
 use Rattle.std.specs.Map.{set_value}
-use Rattle.spaces.specs.Buffers.{Held, held_in}
+use Rattle.spaces.specs.Buffers.{row_in}
 use Rattle.spaces.specs.Overlay.{PageCounts, copies, overlaid_byte}
 use Rattle.spaces.specs.Tables.{Table, is}
 
@@ -21,14 +21,9 @@ all_with_changes [] changes = []
 all_with_changes (bytes ∷ buffers) [] = []
 all_with_changes (bytes ∷ buffers) (one ∷ changes) = with_changes bytes one ∷ all_with_changes buffers changes
 
--- a buffer with changes of its bytes and of its flags (own)
-abbrev pub held_with_changes : Held → Changed → Changed → Held
-held_with_changes held bytes flags = record { bytes = with_changes held.bytes bytes; flags = with_changes held.flags flags }
-
--- what has these names has these changes of bytes and of flags in turn, as far as there are names and changes (own)
-abbrev pub table_with_changes : Table Held → List (List ℕ) → List Changed → List Changed → Table Held
-table_with_changes table [] bytes flags = table
-table_with_changes table (name ∷ names) [] flags = table
-table_with_changes table (name ∷ names) (one ∷ bytes) [] = table
-table_with_changes table (name ∷ names) (one ∷ bytes) (other ∷ flags) =
-    table_with_changes (set_value (is name) table (held_with_changes (held_in table name) one other)) names bytes flags
+-- what has these names has these changes in turn, as far as there are names and changes (own)
+abbrev pub table_with_changes : Table (List ℕ) → List (List ℕ) → List Changed → Table (List ℕ)
+table_with_changes table [] changes = table
+table_with_changes table (name ∷ names) [] = table
+table_with_changes table (name ∷ names) (one ∷ changes) =
+    table_with_changes (set_value (is name) table (with_changes (row_in table name) one)) names changes

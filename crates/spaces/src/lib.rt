@@ -28,7 +28,7 @@ mod row;
 pub mod space;
 mod table;
 
-pub use buffers::{Buffer, Buffers};
+pub use buffers::Buffers;
 pub use changes::Changes;
 pub use constant::ConstView;
 pub use operations::{first_byte, perform};

@@ -4,10 +4,10 @@ ghost use Rattle.std.specs.Prelude.{◌≡◌, ◌<◌, Some, None, map, length,
 ghost use Rattle.clmodel.specs.Cells.{is_flagged, held_cells};
 ghost use Rattle.spaces.specs.Space.{IsChanged};
 
-use crate::buffers::Buffer;
 use crate::cells::{Cell, fetched, is_inside, put, read, updated_word};
 use crate::space::{Space, SpaceFault};
 use clmodel::access::{Class, FetchOp, Width};
+use clmodel::outcome::Contents;
 use clmodel::text::Bytes;
 use std::alloc::{AllocError, Global};
 use std::marker::Model;
@@ -93,9 +93,9 @@ impl Row<Option<u8>> {
         Ok(Row { cells })
     }
 
-    /// A buffer of its bytes, with a flag for each. An error is out of memory.
-    pub fn into_buffer(self, alloc: Global) -> Result<Buffer, AllocError>
-        ensures { IfOk result (λ buffer. held_cells buffer.bytes buffer.flags ≡ self) }
+    /// Its bytes, and a flag for each. An error is out of memory.
+    pub fn into_contents(self, alloc: Global) -> Result<Contents, AllocError>
+        ensures { IfOk result (λ contents. held_cells contents.bytes contents.flags ≡ self) }
     {
         let mut bytes = Vec::with_capacity(alloc, self.cells.len())?;
         let mut flags = Vec::with_capacity(alloc, self.cells.len())?;
@@ -103,7 +103,10 @@ impl Row<Option<u8>> {
             bytes.push(self.cells[place].unwrap_or(0))?;
             flags.push(self.cells[place].is_none() as u8)?;
         }
-        Ok(Buffer::flagged(Bytes::new(bytes), Bytes::new(flags)))
+        Ok(Contents {
+            bytes: Bytes::new(bytes),
+            flags: Bytes::new(flags),
+        })
     }
 
     /// Makes all its bytes unset.

@@ -7,4 +7,4 @@ use Rattle.spaces.proofs.part_overlay.PartOverlay.is_inside.Goals as goal
 pub returns : goal.returns
 returns c =
     let o = c.self.inside in
-    c.is_inside.ensures ∙ ap (nat_le (c.args.at + c.args.count)) (sym (seen_many c.args.self.now o.overlay.base o.flags.row.now (unset_in o.flags) o.overlay.bytes c.self.view_is))
+    c.is_inside.ensures ∙ ap (nat_le (c.args.at + c.args.count)) (sym (seen_many c.args.self.now o.overlay.base o.flags.row.now (unset_in o.flags) o.overlay.bytes (sym c.self.view_is)))

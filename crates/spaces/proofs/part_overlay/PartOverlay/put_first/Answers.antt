@@ -9,18 +9,18 @@ use Rattle.spaces.proofs.part_overlay.PartOverlay.put_first.Goals as goal
 pub prepare-requires : goal.prepare-requires
 prepare-requires c =
     let o = c.self.inside in
-    let many = seen_many c.args.self.now o.overlay.base o.flags.row.now (unset_in o.flags) o.overlay.bytes c.self.view_is in
+    let many = seen_many c.args.self.now o.overlay.base o.flags.row.now (unset_in o.flags) o.overlay.bytes (sym c.self.view_is) in
     omega (arith, many, c.requires, c.all_set.ensures.short, c.bytes.ensures.value)
 
 pub put-requires : goal.put-requires
 put-requires c =
     let o = c.self.inside in
-    subst (λ n. c.args.at + byte_count c.args.width ≤ n) (seen_many c.args.self.now o.overlay.base o.flags.row.now (unset_in o.flags) o.overlay.bytes c.self.view_is) c.requires
+    subst (λ n. c.args.at + byte_count c.args.width ≤ n) (seen_many c.args.self.now o.overlay.base o.flags.row.now (unset_in o.flags) o.overlay.bytes (sym c.self.view_is)) c.requires
 
 pub clear-requires-clause-short : goal.clear-requires-clause-short
 clear-requires-clause-short c =
     let o = c.self.inside in
-    let many = seen_many c.args.self.now o.overlay.base o.flags.row.now (unset_in o.flags) o.overlay.bytes c.self.view_is in
+    let many = seen_many c.args.self.now o.overlay.base o.flags.row.now (unset_in o.flags) o.overlay.bytes (sym c.self.view_is) in
     omega (arith, many, c.requires, c.all_set.ensures.short, c.bytes.ensures.value)
 
 pub clear-requires-clause-copied : goal.clear-requires-clause-copied
@@ -53,7 +53,7 @@ returns-clause-changed c =
     let o = c.self.inside in
     let count = byte_count c.args.width in
     let n : c.bytes.result ≡ count = c.bytes.ensures.value in
-    seen_put c.args.self.now o.overlay.base o.flags.row.now (unset_in o.flags) o.overlay.bytes c.self.view_is (unset_in c.clear.new.self) c.put.new.self.bytes c.args.at count c.args.value c.in_ok-put.ensures.changed
+    seen_put c.args.self.now o.overlay.base o.flags.row.now (unset_in o.flags) o.overlay.bytes (sym c.self.view_is) (unset_in c.clear.new.self) c.put.new.self.bytes c.args.at count c.args.value c.in_ok-put.ensures.changed
     (λ byte. c.clear.ensures.cleared byte ∙ ap₂ (λ x y. x && not (covers c.args.at y byte)) (c.prepare.ensures.same byte) n)
 
 pub returns-clause-base : goal.returns-clause-base

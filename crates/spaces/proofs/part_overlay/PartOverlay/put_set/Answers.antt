@@ -7,16 +7,16 @@ use Rattle.spaces.proofs.part_overlay.PartOverlay.put_set.Goals as goal
 pub put-requires : goal.put-requires
 put-requires c =
     let o = c.self.inside in
-    subst (λ n. c.args.at + byte_count c.args.width ≤ n) (seen_many c.args.self.now o.overlay.base o.flags.row.now (unset_in o.flags) o.overlay.bytes c.self.view_is) c.requires.inside
+    subst (λ n. c.args.at + byte_count c.args.width ≤ n) (seen_many c.args.self.now o.overlay.base o.flags.row.now (unset_in o.flags) o.overlay.bytes (sym c.self.view_is)) c.requires.inside
 
 pub returns-clause-changed : goal.returns-clause-changed
 returns-clause-changed c =
     let o = c.self.inside in
     let count = byte_count c.args.width in
     let none : lowest_marked (unset_in o.flags) c.args.at count ≡ None
-    = sym (seen_lowest c.args.self.now o.overlay.base o.flags.row.now (unset_in o.flags) o.overlay.bytes c.self.view_is c.args.at count c.all_set.ensures.set c.requires.inside) ∙ c.requires.set in
+    = sym (seen_lowest c.args.self.now o.overlay.base o.flags.row.now (unset_in o.flags) o.overlay.bytes (sym c.self.view_is) c.args.at count c.all_set.ensures.set c.requires.inside) ∙ c.requires.set in
     on_ok_more c.put.result
-    (λ b. seen_put c.args.self.now o.overlay.base o.flags.row.now (unset_in o.flags) o.overlay.bytes c.self.view_is (unset_in o.flags) c.put.new.self.bytes c.args.at count c.args.value b
+    (λ b. seen_put c.args.self.now o.overlay.base o.flags.row.now (unset_in o.flags) o.overlay.bytes (sym c.self.view_is) (unset_in o.flags) c.put.new.self.bytes c.args.at count c.args.value b
     (none_to_clear (unset_in o.flags) c.args.at count none))
     c.put.ensures.changed
 

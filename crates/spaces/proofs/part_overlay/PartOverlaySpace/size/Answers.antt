@@ -6,4 +6,4 @@ use Rattle.spaces.proofs.part_overlay.PartOverlaySpace.size.Goals as goal
 pub returns : goal.returns
 returns c =
     let o = c.self.inside in
-    c.size.ensures ∙ sym (seen_many c.args.self.now o.overlay.base o.flags.row.now (unset_in o.flags) o.overlay.bytes c.self.view_is)
+    c.size.ensures ∙ sym (seen_many c.args.self.now o.overlay.base o.flags.row.now (unset_in o.flags) o.overlay.bytes (sym c.self.view_is))
