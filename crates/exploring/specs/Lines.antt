@@ -41,8 +41,8 @@ byte_text None = codes "none"
 byte_text (Some byte) = decimal byte
 
 -- the byte of a place
-abbrev pub byte_at : List (List ℕ) → Place → Option ℕ
-byte_at buffers place = slice_get (slice_index_or buffers place.buffer []) place.byte
+abbrev pub byte_at : List (List (Option ℕ)) → Place → Option ℕ
+byte_at buffers place = cells_of (slice_index_or buffers place.buffer []) place.byte
 
 abbrev pub schedule_line : List EventRun → List ℕ
 schedule_line runs = codes "schedule " ++ (schedule_text runs ++ codes "\n")

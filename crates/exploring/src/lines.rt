@@ -111,12 +111,12 @@ fn write_shown<W: Write>(
     write_fault(spot.ticket, shown, writer)
 }
 
-/// The byte of a place, if there is one.
-fn byte_at(buffers: &[Bytes], place: Place) -> Option<u8>
+/// The byte of a place, if there is one that is set.
+fn byte_at(buffers: &[BufferMem], place: Place) -> Option<u8>
     ensures { result ≡ byte_at buffers.now place }
 {
     match buffers.get(place.buffer) {
-        Some(buffer) => buffer.as_slice().get(place.byte).copied(),
+        Some(buffer) => buffer.cell(place.byte),
         None => None,
     }
 }

@@ -3,13 +3,15 @@ use Rattle.std.proofs.Common.{◌≡◌, ℕ, zero, suc, ◌+◌, Bool, true, fa
 use Rattle.std.specs.Prelude.{slice_get, slice_index_or}
 use Rattle.std.proofs.Math.Path.{fun_ext}
 use Rattle.std.proofs.lemmas.List.{length-map}
-use Rattle.clmodel.specs.Cells.{cells_of, masked, held_cells}
+use Rattle.clmodel.specs.Cells.{cells_of, is_flagged, masked, held_cells}
+use Rattle.clmodel.specs.Next.{launch_on, launch_of}
 use Rattle.clmodel.specs.Launch.{Launch, AllSet}
 use Rattle.clmodel.specs.Run.{initial}
 use Rattle.clmodel.specs.declared.access.Region.TheVariants as region
 use Rattle.clmodel.specs.Setup.{Setup, buffer_names}
 use Rattle.clmodel.proofs.Steps.{none_some, some_inj, if_false}
-use Rattle.spaces.specs.Buffers.{bytes_in, flags_in, is_unset_in}
+use Rattle.spaces.specs.Buffers.{row_in, bytes_in, flags_in, is_unset_in}
+use Rattle.spaces.specs.Tables.{Table}
 use Rattle.spaces.specs.declared.buffers.Buffers.{Buffers}
 use Rattle.launches.specs.Groups.{cells_from_start, buffers_from_start, filled, launch_in}
 use Rattle.launches.specs.Objects.{SpacesHold}
@@ -111,3 +113,7 @@ module _ (buffers : Buffers) (names : List (List ℕ)) where
 
 pub filled_in : (setup : Setup) (buffers : Buffers) → filled (launch_in setup buffers) ≡ map (λ name. held_cells (bytes_in buffers name) (flags_in buffers name)) (buffer_names setup)
 filled_in setup buffers = filled_from buffers (buffer_names setup) 0 (buffer_names setup) (λ k. ap (λ n. slice_index_or (buffer_names setup) n []) {x = 0 + k} {y = k} (omega arith))
+
+-- a launch on buffers none of which has flags
+pub launch_set : (setup : Setup) (buffers : Buffers) → buffers.flags ≡ [] → launch_in setup buffers ≡ launch_of setup (row_in buffers.bytes)
+launch_set setup buffers none = ap (λ (flags : Table (List ℕ)). launch_on setup (bytes_in buffers) (λ name. is_flagged (row_in flags name))) none

@@ -1,7 +1,7 @@
 //! Bytes in a row.
 
 ghost use Rattle.std.specs.Prelude.{◌≡◌, ◌<◌, Some, None, map, length, replicate, false, if◌then◌else◌, slice_get, IfOk};
-ghost use Rattle.clmodel.specs.Cells.{is_flagged, held_cells};
+ghost use Rattle.clmodel.specs.Cells.{cells_of, is_flagged, held_cells};
 ghost use Rattle.spaces.specs.Space.{IsChanged};
 
 use crate::cells::{Cell, fetched, is_inside, put, read, updated_word};
@@ -118,6 +118,23 @@ impl Row<Option<u8>> {
 }
 
 impl<C: Cell> Row<C> {
+    /// How many bytes there are.
+    pub fn len(&self) -> usize
+        ensures { result ≡ length self.now }
+    {
+        self.cells.len()
+    }
+
+    /// A byte, if it is there and set.
+    pub fn cell(&self, byte: usize) -> Option<u8>
+        ensures { result ≡ cells_of self.now byte }
+    {
+        match self.cells.get(byte) {
+            Some(cell) => cell.byte(),
+            None => None,
+        }
+    }
+
     /// Puts what a function makes of the number of 4 bytes in its place, and gives the number that was there (OpenCL
     /// 1.2, section 6.12.11: "old"). An error says why nothing is changed.
     fn change<F: FnOnce(u32) -> u32>(&mut self, at: u64, makes: F) -> Result<u32, SpaceFault>
