@@ -5,3 +5,4 @@ pub mod Stepping
 pub mod Items
 pub mod Starting
 pub mod Trying
+pub mod Stopped

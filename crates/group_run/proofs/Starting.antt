@@ -2,7 +2,7 @@
 use Rattle.std.proofs.Common.{◌≡◌, ℕ, zero, suc, ◌+◌, ◌-◌, ◌*◌, ◌<◌, ◌≤◌, ◌^◌, Bool, false, Option, None, Some, List, [], ◌∷◌, length, map, replicate, refl, sym, ap, ap₂, ◌∙◌, subst, arith}
 use Rattle.std.specs.Prelude.{slice_get, slice_index, slice_index_or}
 use Rattle.std.proofs.Math.Path.{fun_ext}
-use Rattle.std.proofs.Math.Nat.{suc-mul, mul_comm, mul-le-mul_right, mul-le-mul_left, le-mul_of_pos_right}
+use Rattle.std.proofs.Math.Nat.{suc-mul, mul-le-mul_right, mul-le-mul_left}
 use Rattle.std.proofs.lemmas.List.{length-replicate, length-map}
 use Rattle.clmodel.specs.Cells.{cells_of}
 use Rattle.clmodel.specs.Launch.{Launch}
@@ -24,8 +24,7 @@ use Rattle.launches.specs.declared.slot.Slot.TheVariants as slot
 use Rattle.group_run.specs.Fits.{Fits}
 use Rattle.group_run.specs.Items.{acts_at}
 use Rattle.joining.specs.Parts.{IsGrouped}
-use Rattle.joining.specs.Group.{Plan, IsGroup, Reached, Reported, IsRun, plan_of}
-use Rattle.group_run.specs.Logs.{IsLogged}
+use Rattle.joining.specs.Group.{Plan, IsGroup, Reached, IsRun, plan_of}
 use Rattle.group_run.specs.Loops.{IsBrief}
 use Rattle.launches.specs.Groups.{IsRunnable, filled}
 use Rattle.group_run.specs.Results.{Leaves}
@@ -106,7 +105,7 @@ start_fits acts bytes ro l group items globals locals log ready there writable f
     }))
 
 -- the plan as the code has it
-plan_same : (l : Launch) (group first count : ℕ) → first ≡ group * l.group_size → count ≡ l.group_size → record { launch = l; group = group; first = first; count = count } ≡ plan_of l group
+pub plan_same : (l : Launch) (group first count : ℕ) → first ≡ group * l.group_size → count ≡ l.group_size → record { launch = l; group = group; first = first; count = count } ≡ plan_of l group
 plan_same l group first count e h = ap₂ (λ f c. record { launch = l; group = group; first = f; count = c }) e h
 
 -- the group's items have numbers of 32 bits
@@ -184,8 +183,7 @@ leaves_fit acts bytes ro p items number globals locals log events s f =
       logged = f.logged;
     }
 
--- What is left where the run ends clean, and what is known where it ends with a report, by the group's plan. The code
--- has it as `q`.
+-- What is left where the run ends clean, by the group's plan. The code has it as `q`.
 module _
     {I G : Type 0} (acts : ℕ → I → List Answer → Action) (bytes : G → List (Option ℕ)) (ro : Bool) (l : Launch) (group size : ℕ) (items : List I) (number : ℕ) (globals : List G)
     (locals : List (List (Option ℕ))) (log : Log) {events other : Events} (report : Option Fault) (sized : size ≡ l.group_size) (started : List I) (many : length started ≡ size) {q : Plan}
@@ -208,17 +206,3 @@ module _
       ) in
       subst (λ z. IsRun (plan_of l group) (Leaves bytes (plan_of l group) globals log) (start l) z None) (sym told)
       (subst (λ z. IsRun z (Leaves bytes z globals log) (start l) events None) planned out)
-
-  pub stopped_result : (fault : Fault) → report ≡ Some fault → IsRun (plan_of l group) (IsLogged (plan_of l group) log) (start l) other (Some fault)
-  stopped_result fault some =
-      let r : Reported here (Fits acts bytes ro q items number globals locals log) (start l) events fault
-      = subst (IsRun here (Fits acts bytes ro q items number globals locals log) (start l) events) some ran in
-      let out : IsRun here (IsLogged here log) (start l) events (Some fault)
-      = record {
-        state = r.state;
-        runs = r.runs;
-        holds = subst (λ z. IsLogged z log events r.state) same r.holds.logged;
-        reports = r.reports;
-      } in
-      subst (λ z. IsRun (plan_of l group) (IsLogged (plan_of l group) log) (start l) z (Some fault)) (sym told)
-      (subst (λ z. IsRun z (IsLogged z log) (start l) events (Some fault)) planned out)

@@ -1,11 +1,11 @@
 -- An access that is noted as if it were made, and a group that stopped at its unset bytes.
-use Rattle.std.proofs.Common.{◌≡◌, ℕ, ◌+◌, ◌<◌, ◌^◌, ℤ, Bool, Option, None, Some, List, [], ◌∷◌, ◌++◌, length, refl, sym, ap, ap₂, ◌∙◌, subst, arith, length-append}
+use Rattle.std.proofs.Common.{◌≡◌, ℕ, ◌+◌, ◌-◌, ◌<◌, ◌≤◌, ◌^◌, ℤ, Bool, Option, None, Some, List, [], ◌∷◌, ◌++◌, length, refl, sym, ap, ap₂, ◌∙◌, subst, arith, length-append}
 use Rattle.std.specs.Prelude.{Ok, Box}
 use Rattle.std.specs.Box.{box_value}
 use Rattle.std.specs.declared.alloc.Global.{Global}
 use Rattle.std.specs.Option.{option_map, option_and_then}
 use Rattle.clmodel.specs.Cells.{byte_count, size_of}
-use Rattle.clmodel.specs.Launch.{within_group, region_of, group_of, first_byte}
+use Rattle.clmodel.specs.Launch.{Launch, within_group, region_of, group_of, first_byte}
 use Rattle.clmodel.specs.Law.{Reports, conflict_fault}
 use Rattle.clmodel.specs.Run.{State, Events, next_action, byte_at, access_of}
 use Rattle.clmodel.specs.declared.access.Access.{Access}
@@ -24,6 +24,9 @@ use Rattle.access_list.specs.declared.log.Entry.{Entry}
 use Rattle.joining.specs.Group.{Plan, IsGroup, turn_of, Reported}
 use Rattle.joining.specs.Join.{unset_item, asked, stopped_access}
 use Rattle.joining.proofs.Again.{unset_stop, asked_item}
+use Rattle.item_step.specs.BriefActions.{action_from}
+use Rattle.item_step.specs.declared.brief_action.BriefAction.{BriefAction}
+use Rattle.item_step.specs.declared.brief_action.BriefAction.TheVariants as brief
 use Rattle.launches.specs.Objects.{space_of}
 use Rattle.group_run.specs.Fits.{Fits}
 use Rattle.group_run.specs.Logs.{conflict_of, IsLogged, IsJudged}
@@ -62,9 +65,9 @@ module _
   -- one of a buffer, which is noted
   pub some_tried :
       (log2 : Log) (first more n : ℕ) (told : Option (Box Fault Global)) (entry : Entry) → Some first ≡ first_byte (length (space_of bytes globals locals o)) element (size_of op)
-      → IsJudged p.launch log entry log2 (option_map box_value told) → entry ≡ entry_of (p.first + k) (region_of p.group o) first op number → more ≡ number + 1 → o ≡ object.Buffer n → first + size_of op < 2 ^ 64
+      → IsJudged p.launch log entry log2 (option_map box_value told) → entry ≡ entry_of (p.first + k) (region_of p.group o) first op number → more ≡ number + 1 → number + 1 < 2 ^ 32 → o ≡ object.Buffer n → first + size_of op < 2 ^ 64
       → IsTried p before (Fits acts bytes ro p items more globals locals log2) (p.first + k) (action.Access o element op) (Some (record { entry = entry; own = told }))
-  some_tried log2 first more n told entry place judged is counted buffer short events s f acts_so =
+  some_tried log2 first more n told entry place judged is counted fewer buffer short events s f acts_so =
       let l = p.launch in
       let item = p.first + k in
       let at = region_for l item o in
@@ -103,9 +106,17 @@ module _
             (newest_is_hit l p.group s.log y log.accesses mine f.logged.mine f.logged.keeps
             ∙ ap₂ (λ u z. option_map conflict_of (hit (within_group u) z log.accesses)) (sym f.logged.uniform) (sym stamp)
             ∙ ap (option_map conflict_of) (sym kept.0))),
+        omega (arith, fewer, f.counted),
       )
 
 -- ---- a group that stopped
+
+-- what is no access is none of a buffer
+pub not_access : (l : Launch) (s : State) (item : ℕ) (a : BriefAction) (turns : List ℕ) → ((o : Object) (element : ℤ) (op : Operation) → a ≡ brief.Access o element op → ⊥) → NoBuffer l s item (action_from a turns)
+not_access l s item (brief.Access o element op) turns other x asks of = other o element op refl
+not_access l s item (brief.Barrier site depth fences) turns other x asks of = none_some x asks
+not_access l s item brief.End turns other x asks of = none_some x asks
+not_access l s item (brief.Fault cause) turns other x asks of = none_some x asks
 
 -- the place in the group of the item that stopped it
 pub stop_place : (p : Plan) → IsGroup p → (s : State) (f : Fault) (item : ℕ) → unset_item f ≡ Some item → turn_of p s ≡ Reports f → (k : ℕ) × (k < p.count) × (p.first + k ≡ item)
@@ -158,3 +169,40 @@ module _ (p : Plan) (origin : State) (events : Events) (f : Fault) (old : Events
           holds = subst (λ es. new es (logged_too r.state t.0)) (sym more) t.6;
           conflicts = t.7;
         }
+
+-- ---- as the code has it
+
+-- the place of the item that stopped a group, by its number and that of the group's first item
+pub place_is : (p : Plan) (item first : ℕ) (w : (k : ℕ) × (k < p.count) × (p.first + k ≡ item)) → first ≡ p.first → (first ≤ item) × (item - first < p.count) × (p.first + (item - first) ≡ item)
+place_is p item first w e = (omega (arith, w.2, e), omega (arith, w.1, w.2, e), omega (arith, w.2, e))
+
+-- the code has the plan as `q` once it asked the item
+module _
+    (p q : Plan) (origin : State) (events : Events) (f : Fault) (old mid new : Events → State → Type 0) (r : Reported p old origin events f) (same : q ≡ p)
+    (keeps : (es : Events) (s : State) → old es s → mid es s) (item k : ℕ) (is : unset_item f ≡ Some item) (place : p.first + k ≡ item) (a : BriefAction) (turns : List ℕ)
+    (value : next_action p.launch r.state (p.first + k) ≡ action_from a turns) where
+  asked_next : next_action p.launch r.state item ≡ action_from a turns
+  asked_next = subst (λ i. next_action p.launch r.state i ≡ action_from a turns) place value
+
+  pub ends_idle : ((o : Object) (element : ℤ) (op : Operation) → a ≡ brief.Access o element op → ⊥) → StopsElse p mid origin events f
+  ends_idle other = stops_idle p origin events f old r mid mid keeps item is (action_from a turns) asked_next (not_access p.launch r.state item a turns other)
+
+  module _
+      (o : Object) (element told : ℤ) (op : Operation) (back : told ≡ element) (access : a ≡ brief.Access o element op) (t : Option Tried)
+      (tried : IsTried q mid new (q.first + k) (action.Access o told op) t) where
+    retold : (x : Option Tried) → t ≡ x → IsTried p mid new item (action_from a turns) x
+    retold x e =
+        subst (λ z. IsTried p mid new item z x) (ap (λ z. action.Access o z op) back ∙ sym (ap (λ b. action_from b turns) access))
+        (subst (λ i. IsTried p mid new i (action.Access o told op) x) place
+        (subst (λ z. IsTried z mid new (z.first + k) (action.Access o told op) x) same
+        (subst (λ z. IsTried q mid new (q.first + k) (action.Access o told op) z) e tried)))
+
+    pub ends_none : t ≡ None → StopsElse p new origin events f
+    ends_none e = stops_none p origin events f old r mid new keeps item is (action_from a turns) asked_next (retold None e)
+
+    pub ends_tried : (x : Tried) → t ≡ Some x → (after : Events) → after ≡ events ++ Item item ∷ [] → StopsAs p new origin after f (Some x)
+    ends_tried x e after more = stops_tried p origin events f old r mid new keeps item is (action_from a turns) asked_next x after (retold (Some x) e) more
+
+    -- the events stay countable
+    pub tried_room : (x : Tried) → t ≡ Some x → length events + 1 < 2 ^ 64
+    tried_room x e = omega (arith, (retold (Some x) e events r.state (keeps events r.state r.holds) asked_next).8)

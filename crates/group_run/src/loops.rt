@@ -2,7 +2,7 @@
 
 ghost use Rattle.std.specs.Prelude.{◌≡◌, ◌<◌, ◌≤◌, ◌+◌, ℕ, Option, None, Some, IfOk, option_map};
 ghost use Rattle.std.specs.Box.{box_value};
-ghost use Rattle.clmodel.specs.Run.{State, Events, next_action, stop_of};
+ghost use Rattle.clmodel.specs.Run.{State, next_action, stop_of};
 ghost use Rattle.clmodel.specs.declared.action.Stop.{Stop};
 ghost use Rattle.joining.specs.Group.{IsGroup, Reached, Reported, IsRun};
 ghost use Rattle.group_run.specs.Loops.{IsNextAccess, Gathers, GathersAt, GathersOrReports, IsBrief, IsGathered};

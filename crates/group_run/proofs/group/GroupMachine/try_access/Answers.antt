@@ -36,4 +36,4 @@ returns-clause-tried g c =
     let log2 = g.L.Logged.log c.judge.new.log in
     let entry = c.of-entry.ensures ∙ ap (λ z. entry_of (t.first + c.args.k) z c.in-Some.first c.args.operation t.made) c.region-region.ensures in
     some_tried (acts_at (g.D.Described.launch t.launch.now) t.first) g.G.Space.bytes g.G.Space.read_only p t.items.items t.made t.buffers.items t.locals.items (g.L.Logged.log t.log) c.args.k c.args.object c.args.element c.args.operation
-    c.requires log2 c.in-Some.first c.in_ok-made.made _ c.in_ok-own.own c.of-entry.result place c.in_ok-own.ensures entry c.in_ok-made.ensures.value c.in-Buffer.is c.in-Some.ensures.small
+    c.requires log2 c.in-Some.first c.in_ok-made.made _ c.in_ok-own.own c.of-entry.result place c.in_ok-own.ensures entry c.in_ok-made.ensures.value c.in_ok-made.ensures.fits c.in-Buffer.is c.in-Some.ensures.small
