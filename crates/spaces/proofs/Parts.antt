@@ -2,8 +2,8 @@
 use Rattle.std.proofs.Common.{◌≡◌, ℕ, zero, suc, ◌+◌, ◌-◌, ◌/◌, ◌<◌, ◌≤◌, ◌==◌, ◌++◌, take, map, nat_lt, Bool, true, false, ◌&&◌, not, if◌then◌else◌, ◌⊎◌, ⊎_elim, inl, inr, Option, None, Some, List, [], ◌∷◌, length, Result, Ok, Err, OnOk, OnErr, refl, sym, ap, ap₂, ◌∙◌, arith}
 use Rattle.std.proofs.Math.Path.{fun_ext}
 use Rattle.std.proofs.lemmas.Bool.{and_parts, cases_eq, ltb-true, ltb-false, le-ltb, eq-eqb, ne_eqb}
-use Rattle.std.specs.Prelude.{slice_get}
-use Rattle.std.proofs.lemmas.List.{length-map, map-append}
+use Rattle.std.specs.Prelude.{get_or, slice_get}
+use Rattle.std.proofs.lemmas.List.{length-map, length-take-le, map-append, map_more, take_more}
 use Rattle.std.proofs.lemmas.Option.{slice_get-get_or, slice_get_past}
 use Rattle.clmodel.specs.Cells.{Cells, byte_of, cells_of, covers, number, unset_or, lowest_unset, written, is_unset, is_flagged, masked, held_cells}
 use Rattle.clmodel.proofs.CellLaws.{covers_parts, covers_from, number_frame, written_in, written_out}
@@ -314,26 +314,27 @@ masked_last unset first (c ∷ cells) cell =
     (masked_last unset (suc first) cells cell
     ∙ ap (λ n. masked unset (suc first) cells ++ (if unset n then None else cell) ∷ []) {x = suc first + length cells} {y = first + suc (length cells)} (omega arith))
 
-pub held_more : (bytes flags : List ℕ) (place : ℕ) (b : ℕ) → slice_get bytes place ≡ Some b → take (place + 1) bytes ≡ take place bytes ++ b ∷ [] → length (take place bytes) ≡ place
+pub held_more : (bytes flags : List ℕ) (place : ℕ) → place < length bytes
     → held_cells (take (place + 1) bytes) flags ≡ held_cells (take place bytes) flags ++ (if is_flagged flags place then None else slice_get bytes place) ∷ []
-held_more bytes flags place b at more long =
-    ap (λ z. held_cells z flags) more
+held_more bytes flags place below =
+    let b = get_or bytes place 0 in
+    let long = length-map (take place bytes) Some ∙ length-take-le place bytes (omega (arith, below)) in
+    ap (λ z. held_cells z flags) (take_more bytes place 0 below)
     ∙ ap (masked (is_flagged flags) 0) (map-append Some (take place bytes) (b ∷ []))
     ∙ masked_last (is_flagged flags) 0 (map Some (take place bytes)) (Some b)
     ∙ ap₂ (λ n (o : Option ℕ). held_cells (take place bytes) flags ++ (if is_flagged flags n then None else o) ∷ []) {x = 0 + length (map Some (take place bytes))} {y = place}
-    (let n = length-map (take place bytes) Some in omega (arith, n, long)) (sym at)
+    (omega (arith, long)) (sym (slice_get-get_or bytes place 0 below))
 
 -- the bytes and the flags of cells
-pub byte_in : Option ℕ → ℕ
+abbrev pub byte_in : Option ℕ → ℕ
 byte_in None = 0
 byte_in (Some b) = b
 
-pub flag_in : Option ℕ → ℕ
+abbrev pub flag_in : Option ℕ → ℕ
 flag_in None = 1
 flag_in (Some b) = 0
 
 held_from : (cells : List (Option ℕ)) (unset : ℕ → Bool) (first : ℕ) → ((k : ℕ) → unset (first + k) ≡ is_unset (slice_get (map flag_in cells) k)) → masked unset first (map Some (map byte_in cells)) ≡ cells
-unfolding byte_in flag_in
 held_from [] unset first h = refl
 held_from (None ∷ cells) unset first h =
     ap₂ (λ x xs. x ∷ xs) (if_true (unset first) None (Some 0) (ap unset {x = first} {y = first + 0} (omega arith) ∙ h 0))
@@ -345,3 +346,11 @@ held_from (Some b ∷ cells) unset first h =
 -- cells are what their bytes and their flags hold
 pub held_back : (cells : List (Option ℕ)) → held_cells (map byte_in cells) (map flag_in cells) ≡ cells
 held_back cells = held_from cells (is_flagged (map flag_in cells)) 0 (λ k. ap (is_flagged (map flag_in cells)) {x = 0 + k} {y = k} (omega arith))
+
+-- bytes and flags with those of one cell more
+pub cell_more : (f : Option ℕ → ℕ) (cells : List (Option ℕ)) (place : ℕ) (cell : Option ℕ) (old new : List ℕ) (n : ℕ) → place < length cells → cell ≡ get_or cells place cell → old ≡ map f (take place cells)
+    → new ≡ old ++ n ∷ [] → n ≡ f cell → new ≡ map f (take (place + 1) cells)
+cell_more f cells place cell old new n below is before more same =
+    more
+    ∙ ap₂ (λ xs x. xs ++ x ∷ []) before (same ∙ ap f is)
+    ∙ sym (map_more f cells place cell below)

@@ -56,6 +56,41 @@ fn cell_at(bytes: &[u8], flags: &[u8], place: usize) -> Option<u8>
     }
 }
 
+/// What bytes and their flags hold. An error is out of memory.
+fn held_by(alloc: Global, bytes: &[u8], flags: &[u8]) -> Result<Vec<Option<u8>>, AllocError>
+    ensures { IfOk result (λ cells. cells.items ≡ held_cells bytes.now flags.now) }
+{
+    let mut cells = Vec::with_capacity(alloc, bytes.len())?;
+    for place in 0..bytes.len() {
+        cells.push(cell_at(bytes, flags, place))?;
+    }
+    Ok(cells)
+}
+
+/// Bytes and their flags that hold this: an unset byte is 0. An error is out of memory.
+fn contents_of(alloc: Global, cells: &[Option<u8>]) -> Result<Contents, AllocError>
+    ensures { IfOk result (λ contents. held_cells contents.bytes contents.flags ≡ cells.now) }
+{
+    let mut bytes = Vec::with_capacity(alloc, cells.len())?;
+    let mut flags = Vec::with_capacity(alloc, cells.len())?;
+    for cell in cells {
+        match cell {
+            Some(byte) => {
+                bytes.push(*byte)?;
+                flags.push(0)?;
+            }
+            None => {
+                bytes.push(0)?;
+                flags.push(1)?;
+            }
+        }
+    }
+    Ok(Contents {
+        bytes: Bytes::new(bytes),
+        flags: Bytes::new(flags),
+    })
+}
+
 impl Row<u8> {
     /// A space of these bytes.
     pub fn new(bytes: Vec<u8>) -> Self
@@ -86,27 +121,16 @@ impl Row<Option<u8>> {
     pub fn copy_of(alloc: Global, bytes: &[u8], flags: &[u8]) -> Result<Self, AllocError>
         ensures { IfOk result (λ row. row ≡ held_cells bytes.now flags.now) }
     {
-        let mut cells = Vec::with_capacity(alloc, bytes.len())?;
-        for place in 0..bytes.len() {
-            cells.push(cell_at(bytes, flags, place))?;
-        }
-        Ok(Row { cells })
+        Ok(Row {
+            cells: held_by(alloc, bytes, flags)?,
+        })
     }
 
     /// Its bytes, and a flag for each. An error is out of memory.
     pub fn into_contents(self, alloc: Global) -> Result<Contents, AllocError>
         ensures { IfOk result (λ contents. held_cells contents.bytes contents.flags ≡ self) }
     {
-        let mut bytes = Vec::with_capacity(alloc, self.cells.len())?;
-        let mut flags = Vec::with_capacity(alloc, self.cells.len())?;
-        for place in 0..self.cells.len() {
-            bytes.push(self.cells[place].unwrap_or(0))?;
-            flags.push(self.cells[place].is_none() as u8)?;
-        }
-        Ok(Contents {
-            bytes: Bytes::new(bytes),
-            flags: Bytes::new(flags),
-        })
+        contents_of(alloc, self.cells.as_slice())
     }
 
     /// Makes all its bytes unset.
