@@ -34,7 +34,13 @@ use Rattle.spaces.specs.Buffers.{row_in}
 use Rattle.spaces.specs.Changes.{Changed, with_changes, all_with_changes}
 use Rattle.spaces.specs.Tables.{Table}
 use Rattle.spaces.specs.declared.buffers.Buffers.{Buffers}
+use Rattle.item_step.specs.Launches.{setup_of}
+use Rattle.item_step.specs.declared.launch.Launch.{Launch as Prepared}
+use Rattle.clmodel.specs.declared.setup.Range.{Range}
 use Rattle.device.specs.Ends.{AreSet}
+use Rattle.device.specs.Machine as machine
+use Rattle.device.specs.Machine.{Machine}
+use Rattle.device.specs.Prepared.{IsPrepared}
 use Rattle.device.proofs.Merged.{same_head, same_tail}
 
 -- each byte of the buffers is set
@@ -191,3 +197,13 @@ ends_set setup buffers none end h =
     set_too (launch_of setup (row_in buffers.bytes)) (buffer_names setup) end
     (subst (λ (l : Launch). EndsAs l (map (row_in []) (buffer_names setup)) end) (launch_set setup buffers none)
     (subst (λ (flags : Table (List ℕ)). EndsAs (launch_in setup buffers) (map (row_in flags) (buffer_names setup)) end) none h))
+
+-- ---- a launch on the buffers of a machine
+
+pub prepared_on :
+    (m : Machine) (kernel : List ℕ) (range : Range) (launch : Prepared) (buffers : Buffers) → IsPrepared m kernel range launch → buffers.bytes ≡ m.buffers → buffers.flags ≡ []
+    → launch_in (setup_of launch) buffers ≡ launch_of (machine.setup_of m (machine.kernel_of m kernel) range) (machine.bytes_of m)
+prepared_on m kernel range launch buffers p bytes none =
+    launch_set (setup_of launch) buffers none
+    ∙ ap (λ (s : Setup). launch_of s (row_in buffers.bytes)) p.setup
+    ∙ ap (λ (b : Table (List ℕ)). launch_of (machine.setup_of m (machine.kernel_of m kernel) range) (row_in b)) bytes

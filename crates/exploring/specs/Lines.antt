@@ -1,6 +1,7 @@
 -- The lines that are written of orders and of commands (own).
-use Rattle.std.specs.Prelude.{◌==◌, ◌||◌, ℕ, Bool, true, false, not, Option, None, Some, is_some, List, [], ◌∷◌, ◌++◌, codes, decimal, slice_get, slice_index_or, if◌then◌else◌}
+use Rattle.std.specs.Prelude.{◌==◌, ◌||◌, ℕ, Bool, true, false, not, Option, None, Some, is_some, List, [], ◌∷◌, ◌++◌, codes, decimal, slice_index_or, if◌then◌else◌}
 use Rattle.byte_io.specs.Pieces.{joined}
+use Rattle.clmodel.specs.Cells.{cells_of}
 use Rattle.clmodel.specs.declared.schedule.EventRun.{EventRun}
 use Rattle.explore_runs.specs.declared.apart.Place.{Place}
 use Rattle.fault_lines.specs.ScheduleFile.{ticket_line}

@@ -13,11 +13,11 @@ use crate::findings::{ApartOrders, Findings, Manner, ShownFault};
 use byte_io::pieces::{Piece, write_number, write_pieces};
 use byte_io::{Write, WriteFailed};
 use clmodel::schedule::Schedule;
-use clmodel::text::Bytes;
 use device::Reply;
 use explore_runs::Place;
 use fault_lines::write_schedule;
 use simfile::replies::write_reply;
+use spaces::BufferMem;
 
 /// Writes what stands in front of what is told of the launch of a number.
 fn write_launch<W: Write>(number: usize, writer: &mut W) -> Result<(), WriteFailed>

@@ -1,13 +1,13 @@
 //! Orders of a launch, played one after another.
 #![tactic(auto)]
 
-ghost use Rattle.std.specs.Prelude.{◌≡◌, ℕ, List, [], IfOk, slice_index_or};
+ghost use Rattle.std.specs.Prelude.{◌≡◌, [], IfOk, slice_index_or};
 ghost use Rattle.clmodel.specs.Law.{Reaches};
-ghost use Rattle.clmodel.specs.Next.{launch_of};
 ghost use Rattle.clmodel.specs.Outcome.{events_of};
 ghost use Rattle.explore_runs.specs.Explored.{AreLeft, Explores, IsFound};
 ghost use Rattle.item_step.specs.Launches.{setup_of};
 ghost use Rattle.launches.specs.Groups.{HasGroups, launch_in};
+ghost use Rattle.spaces.specs.declared.buffers.Buffers.{Buffers as BuffersOf};
 ghost use Rattle.exploring.specs.Findings.{AreFound, IsApart, IsShown};
 
 use crate::facts::{Clock, ExploreOptions};
@@ -190,7 +190,7 @@ fn apart_of(
     left: Left,
     numbers: Numbers,
 ) -> Result<Option<ApartOrders>, AllocError>
-    ensures { IfOk result (λ apart. (bytes : List ℕ → List ℕ) → AreLeft (launch_of (setup_of launch.now) bytes) left → IsApart (launch_of (setup_of launch.now) bytes) apart) }
+    ensures { IfOk result (λ apart. (buffers : BuffersOf) → AreLeft (launch_in (setup_of launch.now) buffers) left → IsApart (launch_in (setup_of launch.now) buffers) apart) }
 {
     match left {
         Left::Apart(one, other, place) => Ok(Some(ApartOrders {
