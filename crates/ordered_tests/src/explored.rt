@@ -1,9 +1,8 @@
 //! A kernel of a source, run in order and explored.
 
-ghost use Rattle.clmodel.specs.Next.{launch_of};
+ghost use Rattle.std.specs.Prelude.{◌≡◌, ◌≤◌, true, length};
 ghost use Rattle.item_step.specs.Launches.{setup_of};
 ghost use Rattle.launches.specs.Groups.{HasGroups};
-ghost use Rattle.spaces.specs.Buffers.{bytes_in};
 
 use clmodel::access::{AccessKind, Clash};
 use clmodel::fault::Fault;
@@ -17,7 +16,7 @@ use item_step::{Launch, Setup, is_local_too_large};
 use limits::Limits;
 use lower::lower_kernel;
 use ordered_play::{OrderedEnd, run_ordered};
-use spaces::Buffers;
+use spaces::{BufferMem, Buffers};
 use std::alloc::{AllocError, Global};
 
 /// How many orders are played at most, and how many ticks an item has.
@@ -67,9 +66,9 @@ fn ints(alloc: Global, text: &str) -> Option<Vec<u8>> {
 fn buffers_of(alloc: Global, trial: &Trial) -> Option<Buffers> {
     let mut buffers = Buffers::new(alloc);
     let a = Bytes::new(ints(alloc, trial.a)?);
-    buffers.insert(Name::copy_of(alloc, b"a").ok()?, a).ok()?;
+    buffers.bytes.insert(Name::copy_of(alloc, b"a").ok()?, a).ok()?;
     let b = Bytes::new(ints(alloc, trial.b)?);
-    buffers.insert(Name::copy_of(alloc, b"b").ok()?, b).ok()?;
+    buffers.bytes.insert(Name::copy_of(alloc, b"b").ok()?, b).ok()?;
     Some(buffers)
 }
 
@@ -182,24 +181,43 @@ fn shown(explorer: &Explorer) -> Option<Shows> {
     }
 }
 
+/// Whether a buffer holds the first of these bytes.
+fn holds(buffer: &BufferMem, bytes: &[u8]) -> bool
+    ensures { result ≡ true → length buffer.now ≤ length bytes.now }
+{
+    if buffer.len() > bytes.len() {
+        return false;
+    }
+    for byte in 0..buffer.len() {
+        if buffer.cell(byte) != Some(bytes[byte]) {
+            return false;
+        }
+    }
+    true
+}
+
+/// Whether buffers hold these bytes, one buffer behind the other.
+fn hold(buffers: &[BufferMem], bytes: &[u8]) -> bool {
+    let mut rest = bytes;
+    for buffer in buffers {
+        if !holds(buffer, rest) {
+            return false;
+        }
+        rest = &rest[buffer.len()..];
+    }
+    rest.is_empty()
+}
+
 /// Whether the buffers hold these ints, one buffer behind the other, at the end of the run in order and of the first
-/// complete order. None where memory runs out.
-fn leave(alloc: Global, ordered: OrderedEnd, left: &Left, ints: &[u8]) -> Option<bool> {
-    let OrderedEnd::Ended(_, spaces) = ordered else {
-        return Some(false);
+/// complete order.
+fn leave(ordered: &OrderedEnd, left: &Left, ints: &[u8]) -> bool {
+    let OrderedEnd::Ended(_, buffers) = ordered else {
+        return false;
     };
-    let mut bytes = Vec::new(alloc);
-    for space in spaces {
-        bytes.extend_from_slice(space.into_bytes().as_slice()).ok()?;
-    }
     let (Left::Same(first) | Left::Apart(first, _, _)) = left else {
-        return Some(false);
+        return false;
     };
-    let mut others = Vec::new(alloc);
-    for buffer in &first.buffers {
-        others.extend_from_slice(buffer.as_slice()).ok()?;
-    }
-    Some(bytes.as_slice() == ints && others.as_slice() == ints)
+    hold(buffers.as_slice(), ints) && hold(first.buffers.as_slice(), ints)
 }
 
 /// Whether a trial leaves what it says when it is run in order, and its orders of a seed show what it says. None where
@@ -207,6 +225,6 @@ fn leave(alloc: Global, ordered: OrderedEnd, left: &Left, ints: &[u8]) -> Option
 pub(crate) fn comes_out(alloc: Global, trial: &Trial, seed: u64) -> Option<bool> {
     let (ordered, explorer) = seen(alloc, trial, seed)?;
     let left = ints(alloc, trial.left)?;
-    let is_left = leave(alloc, ordered, &explorer.left, left.as_slice())?;
+    let is_left = leave(&ordered, &explorer.left, left.as_slice());
     Some(is_left && shown(&explorer) == Some(trial.shows))
 }
