@@ -312,17 +312,17 @@ impl<'a> JoinedGroups<'a> {
     {
         laws();
         let found = self.first_conflict(launch.uniform(), group, log);
-        if let Some(met) = earlier(found, entry.event) {
-            return self.cross(launch, &met, None, runs);
-        }
-        match self.lowest_of(spaces, &entry.access) {
-            Some(byte) => {
-                add_first(&mut self.runs, runs.as_slice(), entry.event as u64)?;
-                unset_fault(launch, &entry.access, byte)
-            }
-            None => match found {
-                Some(met) => self.cross(launch, &met, own, runs),
-                None => unreachable!(),
+        match earlier(found, entry.event) {
+            Some(met) => self.cross(launch, &met, None, runs),
+            None => match self.lowest_of(spaces, &entry.access) {
+                Some(byte) => {
+                    add_first(&mut self.runs, runs.as_slice(), entry.event as u64)?;
+                    unset_fault(launch, &entry.access, byte)
+                }
+                None => match found {
+                    Some(met) => self.cross(launch, &met, own, runs),
+                    None => unreachable!(),
+                },
             },
         }
     }
