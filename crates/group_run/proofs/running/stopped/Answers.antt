@@ -37,8 +37,10 @@ returns-in-Some g c =
     let fits : Events → State → Type 0 = Fits (acts_at q.launch m.first) g.G.Space.bytes g.G.Space.read_only q m.items.items m.made m.buffers.items m.locals.items (g.L.Logged.log m.log) in (
       refl,
       c.into_schedule-runs-in-Some.ensures.merged,
-      c.args.fault,
-      unset_result (acts_at q.launch m.first) g.G.Space.bytes g.G.Space.read_only l old.number here q m.items.items m.made m.buffers.items m.locals.items (g.L.Logged.log m.log) c.args.fault
-          c.requires.planned c.in_ok-try_stop.ensures.plan_same c.into_schedule-runs-in-Some.ensures.events tried.entry.access tried.entry.event (option_map box_value tried.own) c.unboxed.result c.unboxed.ensures
-          (subst (StopsAs here fits (start l) c.try_stop.new.runs c.args.fault) c.in-Some.is c.in_ok-try_stop.ensures.tried),
+      (
+        c.args.fault,
+        unset_result (acts_at q.launch m.first) g.G.Space.bytes g.G.Space.read_only l old.number here q m.items.items m.made m.buffers.items m.locals.items (g.L.Logged.log m.log) c.args.fault
+            c.requires.planned c.in_ok-try_stop.ensures.plan_same c.into_schedule-runs-in-Some.ensures.events tried.entry.access tried.entry.event (option_map box_value tried.own) c.unboxed.result c.unboxed.ensures
+            (subst (StopsAs here fits (start l) c.try_stop.new.runs c.args.fault) c.in-Some.is c.in_ok-try_stop.ensures.tried),
+      ),
     )
