@@ -291,8 +291,9 @@ impl<'a, D: Runnable, G: Space, L: AccessLog> Machine for Group<'a, D, G, L> {
         element: i64,
         operation: Operation,
     ) -> Result<Option<Tried>, AllocError> {
-        if let Object::Local(_) = object {
-            return Ok(None);
+        match object {
+            Object::Local(_) => return Ok(None),
+            Object::Buffer(_) => {}
         }
         let Some(first) = place(
             self.buffers.as_slice(),

@@ -1,4 +1,4 @@
-use Rattle.std.proofs.Common.{length, refl, subst}
+use Rattle.std.proofs.Common.{length, refl, sym, subst}
 use Rattle.std.specs.Prelude.{option_map}
 use Rattle.std.specs.Box.{box_value}
 use Rattle.clmodel.specs.Run.{State, Events, start}
@@ -23,7 +23,7 @@ returns-in-None g c =
       refl,
       c.into_schedule-runs.ensures.merged,
       else_result (acts_at q.launch m.first) g.G.Space.bytes g.G.Space.read_only l old.number here q m.items.items m.made m.buffers.items m.locals.items (g.L.Logged.log m.log) c.args.fault
-          c.requires.planned c.in_ok-try_stop.ensures.plan_same c.into_schedule-runs.ensures.events (subst (StopsAs here fits (start l) c.try_stop.new.runs c.args.fault) c.in-None.is c.in_ok-try_stop.ensures.tried),
+          (sym c.requires.planned) c.in_ok-try_stop.ensures.plan_same c.into_schedule-runs.ensures.events (subst (StopsAs here fits (start l) c.try_stop.new.runs c.args.fault) c.in-None.is c.in_ok-try_stop.ensures.tried),
     )
 
 pub returns-in-Some : goal.returns-in-Some
@@ -40,7 +40,7 @@ returns-in-Some g c =
       (
         c.args.fault,
         unset_result (acts_at q.launch m.first) g.G.Space.bytes g.G.Space.read_only l old.number here q m.items.items m.made m.buffers.items m.locals.items (g.L.Logged.log m.log) c.args.fault
-            c.requires.planned c.in_ok-try_stop.ensures.plan_same c.into_schedule-runs-in-Some.ensures.events tried.entry.access tried.entry.event (option_map box_value tried.own) c.unboxed.result c.unboxed.ensures
+            (sym c.requires.planned) c.in_ok-try_stop.ensures.plan_same c.into_schedule-runs-in-Some.ensures.events tried.entry.access tried.entry.event (option_map box_value tried.own) c.unboxed.result c.unboxed.ensures
             (subst (StopsAs here fits (start l) c.try_stop.new.runs c.args.fault) c.in-Some.is c.in_ok-try_stop.ensures.tried),
       ),
     )
