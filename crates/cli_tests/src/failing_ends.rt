@@ -5,8 +5,9 @@ use crate::scripts::{
     ORDERS, ORDERS_REPLIES, RACE, RACE_REPLIES, REFUSED, REFUSED_REPLIES, SUM, SUM_REPLIES,
 };
 use byte_io::{Input, Output};
-use cli::session::{Options, RunEnd};
+use cli::session::RunEnd;
 use cli::{Reader, RunFault, run};
+use command_line::Options;
 use std::alloc::Global;
 use std::io;
 use std::io::{BufWriter, Error, ErrorKind};

@@ -4,7 +4,8 @@ use explore_runs::first_apart;
 use spaces::BufferMem;
 use std::alloc::Global;
 
-/// Two lists of buffers, a word for each with a question mark for an unset byte, and the buffer and the byte where they differ first.
+/// Two lists of buffers, a word for each with a question mark for an unset byte, and the buffer and the byte where they
+/// differ first.
 const ROWS: [(&str, &str, Option<(usize, usize)>); 11] = [
     ("abc", "abd", Some((0, 2))),
     ("abc abc", "abc bbc", Some((1, 0))),

@@ -21,7 +21,7 @@ use Rattle.item_step.specs.Launches as launches
 use Rattle.item_step.specs.declared.launch.Launch.{Launch}
 use Rattle.spaces.specs.declared.buffers.Buffers.{Buffers}
 use Rattle.device.proofs.Set.{prepared_on}
-use Rattle.telling.specs.Judged.{Refuses, Tells}
+use Rattle.telling.specs.Judged.{LeadsThere, Refuses, Tells}
 use Rattle.telling.specs.declared.told.ExplainedCase.{ExplainedCase}
 
 -- two facts of what was answered
@@ -68,6 +68,14 @@ tells m commands ticket kernel range orders launch buffers f runs found at p e s
         → Decides (is_some o) (Reaches (launch_in (launches.setup_of launch) buffers) (events_of runs) f)
     go None n s = (λ e. absurd (false≢true e), λ r. absurd (n r))
     go (Some told) n s = (λ _. s, λ _. refl)
+
+-- a schedule that leads there leads the launch that was prepared
+pub leads_prepared :
+    (m : Machine) (commands : List Command) (ticket : ℕ) (kernel : List ℕ) (range : Range) (orders : Bool) (launch : Launch) (buffers : Buffers) (f : Fault) (runs : List EventRun)
+    → slice_get commands ticket ≡ Some (command.Launch kernel range orders) → IsPrepared m kernel range launch → buffers.bytes ≡ m.buffers → buffers.flags ≡ [] → LeadsThere m commands ticket f runs
+    → Reaches (launch_in (launches.setup_of launch) buffers) (events_of runs) f
+leads_prepared m commands ticket kernel range orders launch buffers f runs at p e set leads =
+    subst (λ (l : model.Launch). Reaches l (events_of runs) f) (sym (prepared_on m kernel range launch buffers p e set)) (leads kernel range orders at)
 
 -- a launch that is refused, and not for want of memory, is refused by its row
 pub refuses :
