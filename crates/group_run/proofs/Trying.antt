@@ -50,17 +50,21 @@ module _
 
   -- an access of a local object
   pub local_tried : (n : ℕ) → o ≡ object.Local n → IsTried p before before (p.first + k) (action.Access o element op) None
-  local_tried n is events s f acts_so =
-      (f, λ x asks of.
-          let r = map_some (λ first. access_of p.launch s (p.first + k) (region_for p.launch (p.first + k) o) first op) (byte_at p.launch (p.first + k) o element op) x asks in
-          not_local (group_of p.launch (p.first + k)) n of.0 (sym (ap (region_of (group_of p.launch (p.first + k))) is) ∙ ap (λ (z : Access). z.region) r.2 ∙ of.1))
+  local_tried n is events s f acts_so = (
+    f,
+    λ x asks of.
+        let r = map_some (λ first. access_of p.launch s (p.first + k) (region_for p.launch (p.first + k) o) first op) (byte_at p.launch (p.first + k) o element op) x asks in
+        not_local (group_of p.launch (p.first + k)) n of.0 (sym (ap (region_of (group_of p.launch (p.first + k))) is) ∙ ap (λ (z : Access). z.region) r.2 ∙ of.1),
+  )
 
   -- one that is out of range
   pub none_tried : None ≡ first_byte (length (space_of bytes globals locals o)) element (size_of op) → IsTried p before before (p.first + k) (action.Access o element op) None
-  none_tried place events s f acts_so =
-      (f, λ x asks of.
-          none_some x (sym (ap (option_map (λ first. access_of p.launch s (p.first + k) (region_for p.launch (p.first + k) o) first op))
-              (placed_at acts bytes ro p items number globals locals log k o element op inside events s None f place)) ∙ asks))
+  none_tried place events s f acts_so = (
+    f,
+    λ x asks of.
+        none_some x (sym (ap (option_map (λ first. access_of p.launch s (p.first + k) (region_for p.launch (p.first + k) o) first op))
+        (placed_at acts bytes ro p items number globals locals log k o element op inside events s None f place)) ∙ asks),
+  )
 
   -- one of a buffer, which is noted
   pub some_tried :

@@ -238,7 +238,7 @@ pub none_to_clear : (unset : ℕ → Bool) (first count : ℕ) → lowest_marked
 none_to_clear unset first count none byte =
     decided (covers first count byte)
     (λ c. let r = covers_parts first count byte c in
-        let set : unset byte ≡ false = none_marked unset first count byte none r.0 r.1 in set ∙ sym (ap (λ z. z && not (covers first count byte)) set))
+    let set : unset byte ≡ false = none_marked unset first count byte none r.0 r.1 in set ∙ sym (ap (λ z. z && not (covers first count byte)) set))
     (λ c. still (unset byte) ∙ sym (ap (λ z. unset byte && not z) c))
   where
     still : (a : Bool) → a ≡ (a && not false)

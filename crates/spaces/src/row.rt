@@ -45,13 +45,7 @@ fn cell_at(bytes: &[u8], flags: &[u8], place: usize) -> Option<u8>
     ensures { result ≡ (if is_flagged flags.now place then None else slice_get bytes.now place) }
 {
     match flags.get(place) {
-        Some(flag) => {
-            if *flag == 0 {
-                Some(bytes[place])
-            } else {
-                None
-            }
-        }
+        Some(flag) => { if *flag == 0 { Some(bytes[place]) } else { None } }
         None => Some(bytes[place]),
     }
 }

@@ -14,6 +14,7 @@ pub returns-clause-set : goal.returns-clause-set
 returns-clause-set c byte inside =
     let base = c.self.inside.base.now in
     let pages = c.self.inside.pages in
-    let many : length c.args.self.now.bytes ≡ length base = as_many c.args.self.now base (copies pages.table) pages.cells.items (sym c.self.view_is) in
-    (overlaid_byte base (copies pages.table) pages.cells.items byte,
-        ap (λ z. cells_of z.bytes byte) (sym c.self.view_is) ∙ overlaid_at base (copies pages.table) pages.cells.items byte (subst (λ n. byte < n) many inside))
+    let many : length c.args.self.now.bytes ≡ length base = as_many c.args.self.now base (copies pages.table) pages.cells.items (sym c.self.view_is) in (
+      overlaid_byte base (copies pages.table) pages.cells.items byte,
+      ap (λ z. cells_of z.bytes byte) (sym c.self.view_is) ∙ overlaid_at base (copies pages.table) pages.cells.items byte (subst (λ n. byte < n) many inside),
+    )
