@@ -92,7 +92,7 @@ cells_row cells first unset j (x ∷ c) (suc count) e h =
     (let z : first ≡ first + 0 = omega arith in let y : j + 0 ≡ j = omega arith in ap cells z ∙ h zero (omega arith) ∙ ap (λ k. if unset k then None else Some x) y)
     (cells_row cells (suc first) unset (suc j) c count (omega (arith, e))
     (λ i b. let z : suc first + i ≡ first + suc i = omega arith in
-        let y : j + suc i ≡ suc j + i = omega arith in ap cells z ∙ h (suc i) (omega (arith, b)) ∙ ap (λ k. if unset k then None else slice_get c i) y))
+    let y : j + suc i ≡ suc j + i = omega arith in ap cells z ∙ h (suc i) (omega (arith, b)) ∙ ap (λ k. if unset k then None else slice_get c i) y))
 
 ends_from :
     (m : Memory) (k : ℕ) (bs cs fs : List (List ℕ)) → length cs ≡ length bs → length fs ≡ length bs → ((n : ℕ) → length (buffer_at cs n) ≡ length (buffer_at bs n))
@@ -105,7 +105,7 @@ ends_from m k (b ∷ bs) (c ∷ cs) (f ∷ fs) e d s h =
     ap₂ (λ (y : List (Option ℕ)) ys. y ∷ ys)
     (cells_row (m (region.Buffer k)) 0 (is_flagged f) 0 c (length b) (s zero)
     (λ i w. let z : k ≡ k + 0 = omega arith in let y : 0 + i ≡ i = omega arith in
-        ap (m (region.Buffer k)) y ∙ ap (λ j. m (region.Buffer j) i) z ∙ h zero i w ∙ ap (λ j. if is_flagged f j then None else slice_get c i) (sym y)))
+    ap (m (region.Buffer k)) y ∙ ap (λ j. m (region.Buffer j) i) z ∙ h zero i w ∙ ap (λ j. if is_flagged f j then None else slice_get c i) (sym y)))
     (ends_from m (suc k) bs cs fs (omega (arith, e)) (omega (arith, d)) (λ n. s (suc n)) (λ n i w. let z : suc k + n ≡ k + suc n = omega arith in ap (λ j. m (region.Buffer j) i) z ∙ h (suc n) i w))
 
 -- what a state leaves in the buffers is what they hold
@@ -181,7 +181,7 @@ word_first : (l : Launch) (first : List (List ℕ)) (n word s : ℕ) → first �
 word_first l first n word s e h =
     number_as (filled_at first n) (initial l (region.Buffer n)) word 4 s
     (λ i c. let v = number_each (initial l (region.Buffer n)) word 4 s i h c in
-        cells_some (buffer_at first n) i ∙ ap (λ (z : List (List ℕ)). slice_get (buffer_at z n) i) e ∙ first_set l n i v.0 v.1 ∙ sym v.1)
+    cells_some (buffer_at first n) i ∙ ap (λ (z : List (List ℕ)). slice_get (buffer_at z n) i) e ∙ first_set l n i v.0 v.1 ∙ sym v.1)
     h
 
 -- a byte of a word that has a first number is in range
@@ -194,9 +194,9 @@ word_lower : (l : Launch) (m : Memory) (old flags : List (List ℕ)) (n word s a
 word_lower l m old flags n word s a holds h k =
     number_as (filled_at old n) (m (region.Buffer n)) word 4 a
     (λ i c. let v = number_each (m (region.Buffer n)) word 4 a i k c in
-        cells_some (buffer_at old n) i
-        ∙ there_set (is_flagged (buffer_at flags n) i) (slice_get (buffer_at old n) i) v.0 (sym (holds.bytes n i (in_word l n word s i h c)) ∙ v.1)
-        ∙ sym v.1)
+    cells_some (buffer_at old n) i
+    ∙ there_set (is_flagged (buffer_at flags n) i) (slice_get (buffer_at old n) i) v.0 (sym (holds.bytes n i (in_word l n word s i h c)) ∙ v.1)
+    ∙ sym v.1)
     k
 
 word_own : (l : Launch) (m : Memory) (spaces : List (List (Option ℕ))) (n word s b : ℕ) → contents m 0 l.buffers ≡ spaces → number (initial l (region.Buffer n)) word 4 ≡ Some s

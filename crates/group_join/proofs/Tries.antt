@@ -98,8 +98,8 @@ placed_inside bytes (negsuc e) count first h = absurd (none_some first h)
 placed_inside bytes (pos e) count first h =
     decided (nat_le ((e + 1) * count) bytes)
     (λ p. let at : e * count ≡ first = some_inj (e * count) first (sym (ap (λ (z : Bool). if z then Some (e * count) else None) p) ∙ h) in
-        let more : (e + 1) * count ≡ e * count + count = let s : e + 1 ≡ suc e = omega arith in ap (λ z. z * count) s ∙ suc-mul e count in
-        omega (arith, leb-true ((e + 1) * count) bytes p, at, more))
+    let more : (e + 1) * count ≡ e * count + count = let s : e + 1 ≡ suc e = omega arith in ap (λ z. z * count) s ∙ suc-mul e count in
+    omega (arith, leb-true ((e + 1) * count) bytes p, at, more))
     (λ p. absurd (none_some first (sym (ap (λ (z : Bool). if z then Some (e * count) else None) p) ∙ h)))
 
 -- the lowest unset byte, by a test of each

@@ -155,6 +155,10 @@ pub flags_made_ok :
 flags_made_ok (Ok t) old new n x w r h = change_made no_flag old new n x 0 w r (record { each = λ byte c. byte_zero (byte - x.first) }) h
 flags_made_ok (Err e) old new n x w r h = tt
 
+empty_row : (row : List ℕ) (one : Changed) → row ≡ [] → with_changes row one ≡ []
+unfolding with_changes
+empty_row row one e = ap (λ z. with_changes z one) e
+
 -- flags that there are none of don't change
 pub no_flags_changed : (rows : List (Bor (List ℕ))) (cleared : List Changed) (changes : List ByteChange) → All (λ (row : Bor (List ℕ)). row.now ≡ []) rows
     → AreChanged (all_with_changes (map (λ row. row.now) rows) cleared) (all_with_changes (map (λ row. row.now) rows) cleared) changes
@@ -163,10 +167,6 @@ no_flags_changed rows cleared changes none =
   where
     now : List (List ℕ)
     now = map (λ (row : Bor (List ℕ)). row.now) rows
-
-    empty_row : (row : List ℕ) (one : Changed) → row ≡ [] → with_changes row one ≡ []
-    unfolding with_changes
-    empty_row row one e = ap (λ z. with_changes z one) e
 
     empty_at : (rows : List (Bor (List ℕ))) (cleared : List Changed) (n : ℕ) → AllByRecursion (λ (row : Bor (List ℕ)). row.now ≡ []) rows → buffer_at (all_with_changes (map (λ (row : Bor (List ℕ)). row.now) rows) cleared) n ≡ []
     empty_at [] cleared n h = refl

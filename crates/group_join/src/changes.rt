@@ -79,7 +79,12 @@ fn changed_word(row: &[u8], changes: &Changes, at: u64) -> u32
 }
 
 /// The number of an element in a space, if there is one.
-pub(crate) fn number_in(spaces: &[PartOverlay<'_>], buffer: u32, at: u64, width: Width) -> Option<u64>
+pub(crate) fn number_in(
+    spaces: &[PartOverlay<'_>],
+    buffer: u32,
+    at: u64,
+    width: Width,
+) -> Option<u64>
     ensures value { result ≡ number (cells_at (map (λ space. space.bytes) spaces.now) buffer) at (byte_count width) }
     ensures below { IfSome result (λ value. value < 256 ^ byte_count width) }
 {
@@ -246,7 +251,11 @@ impl Before<'_, '_, '_, '_> {
 }
 
 /// Makes a change, of those of its bytes that the buffer has. An error is out of memory.
-pub(crate) fn make_change(first: &[&[u8]], changes: &mut [Changes], change: Change) -> Result<(), AllocError>
+pub(crate) fn make_change(
+    first: &[&[u8]],
+    changes: &mut [Changes],
+    change: Change,
+) -> Result<(), AllocError>
     ensures many { length changes.new ≡ length changes.old }
     ensures changed { OnOk result (AreChanged (all_with_changes (map (λ row. row.now) first.now) changes.old) (all_with_changes (map (λ row. row.now) first.now) changes.new) (bytes_of change)) }
 {
