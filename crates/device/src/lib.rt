@@ -173,7 +173,9 @@ impl Device {
         if bytes.len() > buffer.len() || offset > (buffer.len() - bytes.len()) as u64 {
             return Err(Refusal::OutOfRange);
         }
-        self.buffers.bytes.write(name, offset as usize, bytes.as_slice());
+        self.buffers
+            .bytes
+            .write(name, offset as usize, bytes.as_slice());
         Ok(Reply::Done)
     }
 

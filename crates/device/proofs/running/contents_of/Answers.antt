@@ -16,14 +16,14 @@ loop-space-init c =
 
 pub loop-space-preserved : goal.loop-space-preserved
 loop-space-preserved c =
-  let set : AreSet (c.in-Some.space ∷ into_iter_items c.next.new.self) = subst AreSet c.in-Some.ensures.steps.0 c.loop-space.invariant.set in
-  record {
-  split = c.loop-space.invariant.split ∙ (ap (λ l. c.loop-space.yielded ++ l) c.in-Some.ensures.steps.0 ∙ sym (append_assoc c.loop-space.yielded (c.in-Some.space ∷ []) (into_iter_items c.next.new.self)));
-  same = ap (map cells) c.in_ok-push.ensures.items
-      ∙ map-append cells c.loop-space.contents.items (c.in_ok-into_contents.field-0.bytes ∷ [])
-      ∙ ap₂ (λ (xs : List (List (Option ℕ))) x. xs ++ x ∷ []) c.loop-space.invariant.same (row_is c.in_ok-into_contents.field-0.bytes c.in_ok-into_contents.field-0.flags c.in-Some.space c.in_ok-into_contents.ensures set.0);
-  set = set.1;
-}
+    let set : AreSet (c.in-Some.space ∷ into_iter_items c.next.new.self) = subst AreSet c.in-Some.ensures.steps.0 c.loop-space.invariant.set in
+    record {
+      split = c.loop-space.invariant.split ∙ (ap (λ l. c.loop-space.yielded ++ l) c.in-Some.ensures.steps.0 ∙ sym (append_assoc c.loop-space.yielded (c.in-Some.space ∷ []) (into_iter_items c.next.new.self)));
+      same = ap (map cells) c.in_ok-push.ensures.items
+          ∙ map-append cells c.loop-space.contents.items (c.in_ok-into_contents.field-0.bytes ∷ [])
+          ∙ ap₂ (λ (xs : List (List (Option ℕ))) x. xs ++ x ∷ []) c.loop-space.invariant.same (row_is c.in_ok-into_contents.field-0.bytes c.in_ok-into_contents.field-0.flags c.in-Some.space c.in_ok-into_contents.ensures set.0);
+      set = set.1;
+    }
 
 pub returns : goal.returns
 returns c =
