@@ -10,7 +10,11 @@ use std::alloc::{AllocError, Global};
 
 /// A copy of the buffers of these names, byte by byte, some of which may be unset (OpenCL 1.2, section 5.2.1). An error
 /// is out of memory.
-pub fn copies(alloc: Global, names: &[Name], buffers: &Buffers) -> Result<Vec<BufferMem>, AllocError>
+pub fn copies(
+    alloc: Global,
+    names: &[Name],
+    buffers: &Buffers,
+) -> Result<Vec<BufferMem>, AllocError>
     ensures { IfOk result (λ copies. copies.items ≡ map (λ name. held_cells (bytes_in buffers.now name) (flags_in buffers.now name)) names.now) }
 {
     let mut copies = Vec::with_capacity(alloc, names.len())?;

@@ -74,7 +74,10 @@ fn tell_result<L>(
             fault_lines::write(fault, &came.runs, text)
         }
         GroupEnd::Unset(_, _, spaces) => {
-            write_pieces(&[Piece::Number32(came.group), Piece::Text(" unset\n")], text)?;
+            write_pieces(
+                &[Piece::Number32(came.group), Piece::Text(" unset\n")],
+                text,
+            )?;
             tell_spaces(spaces.as_slice(), text)?;
             tell_runs(&came.runs, text)
         }

@@ -64,10 +64,8 @@ fn sets_both(alloc: Global) -> Option<bool> {
     let flags = nines(alloc, 600)?;
     let mut overlay = PartOverlay::new(alloc, bytes.as_slice(), flags.as_slice());
     Some(
-        matches!(
-            overlay.load(254, Width::Four),
-            Err(SpaceFault::Unset(254))
-        ) & overlay.store(254, Width::Four, 0x0403_0201).is_ok()
+        matches!(overlay.load(254, Width::Four), Err(SpaceFault::Unset(254)))
+            & overlay.store(254, Width::Four, 0x0403_0201).is_ok()
             & matches!(overlay.load(254, Width::Four), Ok(0x0403_0201))
             & matches!(overlay.load(254, Width::Eight), Err(SpaceFault::Unset(258)))
             & matches!(
