@@ -1,15 +1,18 @@
 #!/usr/bin/env python3
 """Judges scripts one after another in the folder of a farm's results, as an engine of tools/farm calls it.
 
-    farm_worker.py judge|queue|chunk SECONDS MEMORY WORKERS BUDGET LIMITS WIDEN [KEY..]
+    farm_worker.py judge|queue|chunk FOLDER TEXTS SECONDS MEMORY WORKERS BUDGET LIMITS WIDEN [WORD..]
 
-`judge` judges the scripts of keys, `queue` those of the keys that stand in the pipe at standard input, from which other
-workers take theirs meanwhile, and `chunk` those of chunks, which hold their texts. The result of each script is a line
-of JSON, in a file of this worker's own; one of `chunk` is there whole or not at all. SECONDS and MEMORY (MB, 0 for no
-limit) are of each script, the others the options of the program (BUDGET is - for its own); with WIDEN, `widen` and not
--, it also asks for which bytes the replies hold. A small script takes few milliseconds: so the worker loads few
-modules, starts programs without copying itself, and makes no file for a script. SIGINT, SIGTERM and SIGHUP end it and
-the program that it runs, and so does the end of what started it; the script that was running then has no result.
+`judge` judges the scripts that the words name, each as KEY:AT:SIZE: its key, and where its text lies in the file TEXTS.
+`queue JOBS` judges those that the lines of standard input name, by so many workers, which share the file and each take
+the next line; all hold file 3 open, so that who started them sees when they have ended. `chunk` judges those of chunks,
+which hold their texts. The result of each script is a line of JSON, in a file of this worker's own; one of `chunk` is
+there whole or not at all. SECONDS and MEMORY (MB, 0 for no limit) are of each script, the others the options of the
+program (BUDGET is - for its own); with WIDEN, `widen` and not -, it also asks for which bytes the replies hold.
+
+A small script takes a millisecond. So the worker loads few modules, starts programs without copying itself, with words
+and files that are the same for all scripts, and makes no file for a script. SIGINT, SIGTERM and SIGHUP end it and the
+program that it runs, and so does the end of what started it; the script that was running then has no result.
 Status 0, 130 where it was ended so, or 2 with a line on standard error.
 """
 import os
@@ -19,11 +22,18 @@ import sys
 import time
 
 PASSED, ORDERED, FAULTY = "clean", "ordered", "fault"
-# How long a program has run when its memory is looked at first, and how long is waited for each look behind it.
-FIRST_LOOK, NEXT_LOOK = 0.02, 0.1
-# The bytes of a key and a line feed, and how much of outputs is kept.
-KEY_LINE, MOST_KEPT = 25, 1 << 20
-HOST = os.uname().nodename
+# How often it is looked how a program does, and how long one has run when its memory is looked at first.
+LOOK, FIRST_LOOK = 0.05, 0.02
+# The bytes of a line of a queue, which has the words of up to so many scripts, and the number of the pipe that is held.
+WIDE_LINE, GROUP, HELD = 448, 8, 3
+# How long results wait for others that are written with them; where a script takes longer, they don't wait for it.
+WAIT = 0.02
+# How many bytes of the outputs are read at a time and are kept, and from how many on a text adds to a worker's memory.
+READ, MOST_KEPT, LONG = 1 << 12, 1 << 20, 1 << 16
+# How far the system's two counts of a worker's memory may be apart, in KB.
+SLACK = 1024
+# This machine, as names of files and texts of JSON have it.
+HOST = "".join(it if it.isalnum() or it in "-." else "_" for it in os.uname().nodename)
 
 
 def code_of_json():
@@ -32,31 +42,36 @@ def code_of_json():
     return json
 
 
-def is_plain(text):
-    """Whether JSON has a text as it is, between quotes."""
-    return text.isascii() and text.isprintable() and '"' not in text and "\\" not in text
-
-
-def written(value):
-    """A value of a result as JSON has it."""
-    if isinstance(value, str) and is_plain(value):
-        return f'"{value}"'
-    if value is None or isinstance(value, bool):
-        return {None: "null", True: "true", False: "false"}[value]
-    return repr(value) if isinstance(value, (int, float)) else code_of_json().dumps(value)
+# The line of a clean script of which nothing is said: what most are, as JSON has it without the code for that.
+CLEAN = (f'{{"key": "%s", "verdict": "{PASSED}", "status": 0, "line": "", "script_line": null, "seconds": %.3f, '
+         f'"mb": %.1f, "mb_at_most": %s, "host": "{HOST}", "explanation": null}}\n')
 
 
 class Results:
-    """The file of a worker's results, a line of JSON each. A line that isn't whole counts as none."""
+    """The file of a worker's results, a line of JSON each. A line that isn't whole counts as none.
+
+    Results of small scripts are written together, after some milliseconds: so what is loaded for that is loaded once.
+    """
 
     def __init__(self, path):
-        self.path, self.file = path, None
+        self.path, self.file, self.waiting, self.since = path, None, [], 0.0
 
     def add(self, result):
-        """Adds a result at once, so that what is judged stays where the worker ends."""
-        if self.file is None:
+        """Adds a result: its line, or what CLEAN tells of a clean script."""
+        now = time.monotonic()
+        if not self.waiting:
+            self.since = now
+        self.waiting.append(result)
+        if now - self.since > WAIT:
+            self.write()
+
+    def write(self):
+        """Writes the results that wait, so that they stay where the worker ends."""
+        left = "".join([it if isinstance(it, str) else CLEAN % it for it in self.waiting]).encode()
+        # (what couldn't be written whole isn't written again behind its own beginning)
+        self.waiting.clear()
+        if self.file is None and left:
             self.file = os.open(self.path, os.O_WRONLY | os.O_CREAT | os.O_APPEND, 0o644)
-        left = ("{" + ", ".join([f'"{name}": {written(it)}' for name, it in result.items()]) + "}\n").encode()
         while left:
             left = left[os.write(self.file, left) :]
 
@@ -69,6 +84,7 @@ class Options:
         budget, limits, widen = words[3:6]
         self.limits = [] if limits == "profile" else ["--limits", limits]
         self.device = ([] if budget == "-" else ["--budget", budget]) + self.limits
+        self.running = ["--workers", str(self.workers), *self.device]
         self.widens = widen == "widen"
 
 
@@ -79,21 +95,44 @@ def peak_of(number):
     return int(words[words.index(b"VmHWM:") + 1])
 
 
-class Program:
-    """Runs the program, with its two outputs in files that are used again, and looks at its memory meanwhile."""
+class Run:
+    """What came of a run of the program: its status, negative for a signal or None for too long, its seconds, its most
+    memory in MB, and whether it took no more than that, or just that."""
 
-    def __init__(self, options):
-        self.options, self.number, self.late, self.peak = options, 0, False, 0
-        self.parent, self.is_over = os.getppid(), False
-        # (the worker ends a program that is late; where it was killed itself, the system does)
-        self.processor_seconds = (options.seconds + 1) * (options.workers + 1)
-        self.outputs = [os.memfd_create(name) for name in ("said", "told")]
-        self.begins, self.own = [0, 0], peak_of("self")
-        self.moves = [(os.POSIX_SPAWN_DUP2, os.open("/dev/null", os.O_RDONLY), 0)]
-        self.moves += [(os.POSIX_SPAWN_DUP2, file, to) for to, file in enumerate(self.outputs, 1)]
-        self.environment = dict(os.environb)
+    def __init__(self, status, seconds, memory, is_at_most):
+        self.status, self.seconds, self.memory, self.is_at_most = status, seconds, memory, is_at_most
+
+
+class Program:
+    """Runs the program on the script that is judged, and looks at its memory meanwhile.
+
+    The script is in a file of memory, and so are the two outputs, which are used again for each. The program inherits
+    the outputs and an empty standard input from the worker, so that a start has nothing to do but to start."""
+
+    def __init__(self, options, parent, others):
+        self.options, self.parent, self.others = options, parent, others
+        self.number, self.begun, self.late, self.peak, self.is_over = 0, 0.0, False, 0, False
+        # (what is done meanwhile, where a program takes long)
+        self.meanwhile = lambda: None
+        self.most_used = 0.0
+        self.script, self.size = os.memfd_create("script"), 0
+        self.path, self.text = f"/proc/{os.getpid()}/fd/{self.script}", b""
+        self.judging = ["./bin/clsim", "run", self.path, *options.running]
+        sys.stderr = os.fdopen(os.dup(2), "w", buffering=1)
+        for number, file in enumerate((os.open("/dev/null", os.O_RDONLY), *map(os.memfd_create, ("said", "told")))):
+            os.dup2(file, number)
+            os.close(file)
+        self.begins, self.environment = {1: 0, 2: 0}, dict(os.environb)
+        self.how = {"setpgroup": 0, "setsigdef": sorted(int(it) for it in signal.valid_signals())}
+        self.note_memory()
         resource.setrlimit(resource.RLIMIT_CORE, (0, 0))
+        self.limit_processor()
+        self.heed_signals()
+
+    def heed_signals(self):
+        """From now on looks at the program that runs, and stops where a signal says so."""
         signal.signal(signal.SIGALRM, self.look)
+        signal.setitimer(signal.ITIMER_REAL, LOOK, LOOK)
         for number in (signal.SIGINT, signal.SIGTERM, signal.SIGHUP):
             # (what is ignored, as of a farm behind nohup, stays so)
             if signal.getsignal(number) != signal.SIG_IGN:
@@ -101,104 +140,116 @@ class Program:
 
     def look(self, *_):
         """Looks at the memory of the program, and ends it where it is too late, or where nobody waits for it."""
-        if self.is_alone():
+        if os.getppid() != self.parent:
+            self.stop()
+        if time.process_time() > self.most_used:
+            self.limit_processor()
+        passed = time.monotonic() - self.begun
+        if not self.number or passed < FIRST_LOOK or self.is_over:
             return
         try:
-            if time.monotonic() >= self.end:
+            if passed >= self.options.seconds:
                 os.killpg(self.number, signal.SIGKILL)
                 self.late = True
                 return
             self.peak = peak_of(self.number)
+            self.meanwhile()
         except (OSError, ValueError):
-            # (it has just ended)
+            # (it has just ended; or the disk is full, which the next result says)
             pass
 
-    def is_alone(self):
-        """Whether what started the worker has ended: then it stops too."""
-        if os.getppid() != self.parent:
-            self.stop()
-        return self.is_over
+    def stop(self, *_):
+        """Ends the program where it runs, begins no other one, and has the workers end that this one started."""
+        self.is_over = True
+        for number in ([-self.number] if self.number else []) + self.others:
+            try:
+                os.kill(number, signal.SIGKILL if number < 0 else signal.SIGTERM)
+            except ProcessLookupError:
+                pass
 
-    def start(self, words):
-        """Starts the program in a group of its own, with its limits: its number."""
-        number = self.spawn(words)
-        self.limit(number, resource.RLIMIT_CPU, self.processor_seconds)
-        return number
+    def limit_processor(self):
+        """Limits the processor seconds of programs that are started from now on. (The worker ends a program that is
+        late; where it was killed itself, the system does. A program has the limit from the worker, of which it is
+        raised a second before it is reached.)"""
+        self.most_used = time.process_time() + 1
+        most = int(self.most_used) + (self.options.seconds + 1) * (self.options.workers + 1)
+        hard = resource.getrlimit(resource.RLIMIT_CPU)[1]
+        resource.setrlimit(resource.RLIMIT_CPU, (most if hard == resource.RLIM_INFINITY else min(most, hard), hard))
 
-    def limit(self, number, what, most):
-        """Sets a limit of a program that runs."""
-        try:
-            resource.prlimit(number, what, (most, most))
-        except ProcessLookupError:
-            # (it has ended)
-            pass
+    def note_memory(self):
+        """Notes the most memory of the worker itself, from which on the system counts that of a program."""
+        self.own = peak_of("self") + SLACK
+
+    def take(self, text):
+        """Takes a text as that of the script that is judged."""
+        left, at = text, 0
+        while left:
+            written = os.pwrite(self.script, left, at)
+            left, at = left[written:], at + written
+        if len(text) != self.size:
+            os.ftruncate(self.script, len(text))
+        self.text, self.size = text, len(text)
 
     def spawn(self, words):
-        """Starts the program with its limit of memory."""
-        how = {"file_actions": self.moves, "setpgroup": 0, "setsigdef": [signal.SIGPIPE, signal.SIGXFSZ]}
+        """Starts the program in a group of its own, with its limit of memory: its number."""
         limit, number = self.options.memory << 20, None
         if not limit:
-            return os.posix_spawn(words[0], words, self.environment, **how)
+            return os.posix_spawn(words[0], words, self.environment, **self.how)
         before = resource.getrlimit(resource.RLIMIT_AS)
         resource.setrlimit(resource.RLIMIT_AS, (limit, before[1]))
         try:
-            number = os.posix_spawn(words[0], words, self.environment, **how)
+            number = os.posix_spawn(words[0], words, self.environment, **self.how)
         except (OSError, MemoryError):
             # (the worker itself has more than the limit: the program gets it once it runs)
             pass
         finally:
             resource.setrlimit(resource.RLIMIT_AS, before)
-        number = number or os.posix_spawn(words[0], words, self.environment, **how)
-        self.limit(number, resource.RLIMIT_AS, limit)
+        number = number or os.posix_spawn(words[0], words, self.environment, **self.how)
+        try:
+            resource.prlimit(number, resource.RLIMIT_AS, (limit, limit))
+        except ProcessLookupError:
+            # (it has ended)
+            pass
         return number
 
-    def stop(self, *_):
-        """Ends the program where it runs, and begins no other one."""
-        self.is_over = True
-        try:
-            if self.number:
-                os.killpg(self.number, signal.SIGKILL)
-        except ProcessLookupError:
-            pass
-
-    def text_of(self, output):
-        """What the program has written on an output since the last time."""
-        file, begin = self.outputs[output], self.begins[output]
-        end = os.lseek(file, 0, os.SEEK_CUR)
-        if end == begin:
-            return ""
-        text = os.pread(file, end - begin, begin).decode(errors="replace")
-        if end > MOST_KEPT:
-            os.ftruncate(file, 0)
-            end = os.lseek(file, 0, os.SEEK_SET)
-        self.begins[output] = end
-        return text
-
     def run(self, words):
-        """Runs the program with these words: its two outputs, its status, negative for a signal or None for too long,
-        its seconds, its most memory in MB, and whether it took no more than that, or just that."""
+        """Runs the program with these words. What it says then stands behind what was said before."""
         self.late, self.peak = False, 0
-        begun = time.monotonic()
-        self.end = begun + self.options.seconds
-        self.number = self.start(words)
+        self.begun = time.monotonic()
+        self.number = self.spawn(words)
         if self.is_over:
             self.stop()
-        signal.setitimer(signal.ITIMER_REAL, FIRST_LOOK, NEXT_LOOK)
         _, ended, used = os.wait4(self.number, 0)
-        signal.setitimer(signal.ITIMER_REAL, 0)
         self.number = 0
-        passed = time.monotonic() - begun
+        passed = time.monotonic() - self.begun
         # (what the system notes begins with the memory of the one who started it)
-        if used.ru_maxrss > self.own:
-            self.own = peak_of("self")
-        small = used.ru_maxrss <= self.own
-        memory = used.ru_maxrss if not small else self.peak or self.own
+        is_small = used.ru_maxrss <= self.own
+        memory = used.ru_maxrss if not is_small else self.peak or self.own - SLACK
         status = None if self.late else os.waitstatus_to_exitcode(ended)
-        return self.text_of(0), self.text_of(1), status, passed, memory / 1024, small and not self.peak
+        return Run(status, passed, memory / 1024, is_small and not self.peak)
+
+    def call(self, form, *options):
+        """Runs another form of the program on the script: the status of its run, and what it says."""
+        ran = self.run(["./bin/clsim", form, self.path, *options])
+        said, _ = self.said(1), self.said(2)
+        return ran.status, said.decode(errors="replace")
+
+    def said(self, output):
+        """What the program has written on an output since the last time."""
+        begin = self.begins[output]
+        parts = [os.pread(output, READ, begin)]
+        while len(parts[-1]) == READ:
+            parts.append(os.pread(output, READ, begin + READ * len(parts)))
+        text = b"".join(parts)
+        self.begins[output] = begin + len(text)
+        if self.begins[output] > MOST_KEPT:
+            os.ftruncate(output, 0)
+            self.begins[output] = os.lseek(output, 0, os.SEEK_SET)
+        return text
 
 
 def verdict_of(status, lines):
-    """The verdict on a script, by the status of its run and its replies, which of a clean one needn't be given."""
+    """The verdict on a script, by the status of its run and its replies."""
     if status is None:
         return "timeout"
     if status < 0:
@@ -212,17 +263,16 @@ def verdict_of(status, lines):
     return "crashed"
 
 
-def explanation_of(program, script, verdict, shown):
+def explanation_of(program, verdict, shown):
     """What `clsim explain` says of the line that is shown of a script with a fault or a refusal; None where that is
     another one, as of want of memory, and where it says nothing."""
-    words = ["./bin/clsim", "explain", script, "--format", "json", *program.options.device]
-    text, _, ended, _, _, _ = program.run(words)
+    status, text = program.call("explain", "--format", "json", *program.options.device)
     try:
-        explanation = code_of_json().loads(text) if ended == 0 else None
+        explanation = code_of_json().loads(text) if status == 0 else None
         is_refusal = (explanation or {}).get("kind") == "refusal"
         # (of a script that has a fault before it, the explanation is that of the fault)
-        is_of_it = is_refusal == (verdict != FAULTY) and (not is_refusal or number_of(explanation) == shown.split(" ")[1])
-        return explanation if is_of_it else None
+        is_of_it = not is_refusal or number_of(explanation) == shown.split(" ")[1]
+        return explanation if is_of_it and is_refusal == (verdict != FAULTY) else None
     except (AttributeError, LookupError, TypeError, ValueError):
         return None
 
@@ -252,35 +302,32 @@ def commands_of(text):
                 number = next(ends, len(lines)) + 1
 
 
-def line_of(script, lines, told, shown):
+def line_of(program, lines, told, shown):
     """The line of the script whose command got the reply that is shown, or that is a bad line; None of others."""
     words = told.split(": ")
     if words[0] == "clsim" and words[1:2] and words[1].startswith("line ") and words[1][5:].isdigit():
         return int(words[1][5:])
     if shown not in lines:
         return None
-    with open(script, encoding="latin-1", newline="") as file:
-        numbers = commands_of(file.read())
+    numbers = commands_of(program.text.decode("latin-1"))
     return next((number for at, number in enumerate(numbers) if at == lines.index(shown)), None)
 
 
-def is_as_written(program, script):
+def is_as_written(program):
     """Whether a script is its own plain text, whose lines explanations and what is widened tell."""
-    with open(script, encoding="latin-1", newline="") as file:
-        text = file.read()
+    text = program.text.decode("latin-1")
     if text.split("\n")[0].split("#")[0].split() != ["clsim", "3"]:
         return True
-    plain, _, ended, _, _, _ = program.run(["./bin/clsim", "plain", script])
-    return ended == 0 and plain.encode() == text.encode("latin-1")
+    status, plain = program.call("plain")
+    return status == 0 and plain.encode() == program.text
 
 
-def widened(program, script, status):
+def widened(program, status):
     """For which bytes of its writes and fills a script has its replies, by `clsim widen`: the lines of these, and this
     in words; None where it doesn't say, and of a script by hand."""
-    if not is_as_written(program, script):
+    if not is_as_written(program):
         return None
-    words = ["./bin/clsim", "widen", script, "--format", "json", *program.options.limits]
-    text, _, ended, _, _, _ = program.run(words)
+    ended, text = program.call("widen", "--format", "json", *program.options.limits)
     try:
         told = code_of_json().loads(text)["script"] if ended == status else None
         return told and {"free": told["free"], "text": told["text"]}
@@ -288,80 +335,153 @@ def widened(program, script, status):
         return None
 
 
-def judge(program, key):
-    """Judges the script of a key: its result."""
-    script = f"scripts/{key}.txt"
-    words = ["./bin/clsim", "run", script, "--workers", str(program.options.workers), *program.options.device]
-    said, told, status, seconds, memory, at_most = program.run(words)
-    lines = said.split("\n") if status != 0 or f"\n{ORDERED}\n" in said else []
-    verdict = verdict_of(status, lines)
+def judge(program, key, text):
+    """Judges a script: its result, as a line or as what CLEAN tells."""
+    program.take(text)
+    ran = program.run(program.judging)
+    said, told = program.said(1), program.said(2)
+    if len(text) + len(said) > LONG:
+        program.note_memory()
+    if ran.status == 0 and not told and b"\nordered\n" not in said and not program.options.widens:
+        return key, ran.seconds, ran.memory, "true" if ran.is_at_most else "false"
+    found = found_of(program, ran, said.decode(errors="replace"), told.decode(errors="replace"))
+    line = code_of_json().dumps({"key": key, **found}) + "\n"
+    program.note_memory()
+    return line
+
+
+def found_of(program, ran, said, told):
+    """What is found of the script that was run: its verdict, its first line of interest, and what explains this."""
+    lines = said.split("\n")
+    verdict = verdict_of(ran.status, lines)
     shown, line, explanation = told.strip().split("\n")[0], None, None
     if verdict == ORDERED:
-        shown, line = ORDERED, line_of(script, lines, "", ORDERED)
+        shown, line = ORDERED, line_of(program, lines, "", ORDERED)
     elif verdict in (FAULTY, "refused", "bad"):
         first = shown
         shown = next((it for it in lines if it.startswith(f"{verdict} ")), first)
-        line = line_of(script, lines, first, shown)
-        if shown in lines and is_as_written(program, script):
-            explanation = explanation_of(program, script, verdict, shown)
-    found = {"key": key, "verdict": verdict, "status": status, "line": shown[:2000], "script_line": line,
-             "seconds": round(seconds, 3), "mb": round(memory, 1), "mb_at_most": at_most, "host": HOST,
+        line = line_of(program, lines, first, shown)
+        if shown in lines and is_as_written(program):
+            explanation = explanation_of(program, verdict, shown)
+    found = {"verdict": verdict, "status": ran.status, "line": shown[:2000], "script_line": line,
+             "seconds": round(ran.seconds, 3), "mb": round(ran.memory, 1), "mb_at_most": ran.is_at_most, "host": HOST,
              "explanation": explanation}
     if program.options.widens and verdict in (PASSED, ORDERED, FAULTY, "refused"):
-        found["widened"] = widened(program, script, status)
+        found["widened"] = widened(program, ran.status)
     return found
 
 
-def judge_keys(program, results, keys):
-    """Judges the scripts of keys, and adds their results, as long as nothing ends the worker."""
-    for key in keys:
-        if program.is_alone():
-            return
-        result = judge(program, key)
-        if not program.is_over:
-            results.add(result)
+def judge_groups(program, results, texts, groups):
+    """Judges groups of scripts, and adds their results, as long as nothing ends the worker."""
+    file = os.open(texts, os.O_RDONLY)
+    try:
+        for group in groups:
+            places = [(key, int(at), int(size)) for key, at, size in (word.split(":") for word in group)]
+            for (key, _, _), text in zip(places, texts_at(file, places)):
+                if not program.is_over:
+                    result = judge(program, key, text)
+                if program.is_over:
+                    return
+                results.add(result)
+            results.write()
+    finally:
+        results.write()
 
 
-def keys_of_queue():
-    """The keys in the pipe at standard input, each taken when it is asked for."""
-    while len(line := os.read(0, KEY_LINE)) == KEY_LINE:
-        yield line[:-1].decode()
+def texts_at(file, places):
+    """The texts at places of a file, which are read at once where they lie together."""
+    begin, end = places[0][1], places[-1][1] + places[-1][2]
+    if 0 <= end - begin <= LONG:
+        block = text_at(file, begin, end - begin)
+        return [block[at - begin : at - begin + size] for _, at, size in places]
+    return (text_at(file, at, size) for _, at, size in places)
+
+
+def text_at(file, at, size):
+    """The bytes of a file at a place, all of them."""
+    text = os.pread(file, size, at)
+    while len(text) < size:
+        more = os.pread(file, size - len(text), at + len(text))
+        if not more:
+            raise OSError(0, "a text is missing", "scripts")
+        text += more
+    return text
+
+
+def groups_of_queue(queue):
+    """The groups of words in a file that workers share, each taken when it is asked for."""
+    while len(line := os.read(queue, WIDE_LINE)) == WIDE_LINE:
+        yield line.decode().split()
+
+
+def groups_of(words):
+    """Words in groups."""
+    return [words[first : first + GROUP] for first in range(0, len(words), GROUP)]
 
 
 def judge_chunk(program, name):
     """Judges the scripts of a chunk, and writes their results as one file."""
     new = f"chunks/{name}.new"
     results = Results(new)
-    os.makedirs("scripts", exist_ok=True)
     with open(f"chunks/{name}.in", encoding="utf-8") as file:
         texts = code_of_json().load(file)
     for key, text in texts.items():
-        with open(f"scripts/{key}.txt", "w", encoding="latin-1", newline="") as file:
-            file.write(text)
-        judge_keys(program, results, [key])
-        os.remove(f"scripts/{key}.txt")
+        line = judge(program, key, text.encode("latin-1"))
         if program.is_over:
             break
+        results.add(line)
+    results.write()
     if not program.is_over:
         os.replace(new, f"chunks/{name}.out")
     elif os.path.exists(new):
         os.remove(new)
 
 
-def main():
-    form, program, names = sys.argv[1], Program(Options(sys.argv[2:8])), sys.argv[8:]
-    results = Results(f"cases/{HOST}.{os.getpid()}.{time.time_ns()}.jsonl")
+def forked(count):
+    """Starts more workers like this one, which has loaded what they need: their numbers, of which they have none."""
+    numbers = []
+    while len(numbers) < count:
+        number = os.fork()
+        if number == 0:
+            return []
+        numbers.append(number)
+    return numbers
+
+
+def work(form, texts, options, words):
+    """Does the work of a worker, and waits for the workers that it started: its status."""
+    parent, own, others = os.getppid(), os.getpid(), []
+    if form == "queue":
+        os.set_inheritable(HELD, False)
+        others, groups = forked(int(words[0]) - 1), groups_of_queue(os.dup(0))
+    else:
+        groups = groups_of(words)
+    program = Program(options, parent if own == os.getpid() else own, others)
+    results, status = Results(f"cases/{HOST}.{os.getpid()}.{time.time_ns()}.jsonl"), 0
+    program.meanwhile = results.write
     try:
         if form == "chunk":
-            for name in names:
+            for name in words:
                 judge_chunk(program, name)
         else:
-            judge_keys(program, results, names if form == "judge" else keys_of_queue())
+            judge_groups(program, results, texts, groups)
     except OSError as fault:
         named = os.environ.get("CLSIM_FARM_NAME", "tools/farm")
         print(f"{named}: {fault.filename or results.path}: {fault.strerror}", file=sys.stderr)
-        return 2
-    return 130 if program.is_over else 0
+        status = 2
+    while others:
+        _, ended = os.waitpid(others[0], 0)
+        others.pop(0)
+        status = status or (2 if ended else 0)
+    # (a signal that came while Python ends would end the worker with it)
+    signal.setitimer(signal.ITIMER_REAL, 0)
+    return 130 if program.is_over else status
+
+
+def main():
+    form, folder, texts = sys.argv[1:4]
+    os.chdir(folder)
+    return work(form, texts, Options(sys.argv[4:10]), sys.argv[10:])
 
 
 if __name__ == "__main__":

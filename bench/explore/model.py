@@ -1,14 +1,16 @@
 #!/usr/bin/env python3
-"""Works out what `clsim explore` has to tell of scripts of the gallery, without Clsim.
+"""Works out what `clsim explore` has to tell of scripts, without Clsim.
 
     bench/explore/model.py [--orders N] [--seed S] [NAME..]
     bench/explore/model.py [--orders N] [--seed S] --compare PROGRAM [NAME..]
 
-NAME is a script of examples/gallery whose kernel is written here as a function of Python; without one, all of them. The
-orders are those of docs/use/explore.md: order 1 goes by the items' numbers, and of the others each second one goes by
-priorities with few changes, each second one by chance. Written is what each script shows; of a fault the schedule isn't
-made shorter, as the program makes it. With --compare the program is run, its lines are compared, up to the schedule of
-a fault, and the schedule is replayed; the last line is `N passed, M failed`, and the status is 0 where M is 0, else 1.
+NAME is a script of examples/gallery, or of this folder, whose kernel is written here as a function of Python; without
+one, all of them. The orders are those of docs/use/explore.md: order 1 goes by the items' numbers, and of the others
+each second one goes by priorities with few changes, each second one by chance; and where it isn't known whether one
+comes to an end, it is looked at again as the page says. Written is what each script shows; of a fault the schedule
+isn't made shorter, as the program makes it. With --compare the program is run, its lines are compared, up to the
+schedule of a fault that was made shorter, and the schedule is replayed; the last line is `N passed, M failed`, and the
+status is 0 where M is 0, else 1.
 """
 import argparse
 import collections
@@ -24,6 +26,10 @@ WORD = 1 << 64
 # After so many atomic operations in a row an item lets others go; an order has so many turns at most.
 LONGEST, TURNS = 64, 1 << 20
 DRAWN = 1 << 63
+# After so many atomic operations for each item that can go on, without a stop, none seems to come to one.
+PATIENCE = 4096
+# The ticks of an item where none are asked for: its accesses, barriers and turns of loops.
+BUDGET = 100_000
 
 
 # ---- the kernels: what an item does, action by action, with the answer to each
@@ -65,6 +71,11 @@ def draw(name):
     return fetch(name, 0, lambda old: old + 1)
 
 
+def turn():
+    """A turn of a loop. It is written only in loops that may have no end."""
+    return ("turn",)
+
+
 def bids_under_a_lock(i, stays=False):
     tries = 0
     while (yield compare_exchange("lock", 0, 0, 1)) != 0:
@@ -84,6 +95,38 @@ def bids_under_a_lock_that_stays(i):
     return bids_under_a_lock(i, stays=True)
 
 
+def transfers_under_two_locks(i, in_two_orders=False):
+    source = yield load("source", i)
+    target = yield load("target", i)
+    locks = (source, target) if in_two_orders else (min(source, target), max(source, target))
+    for lock in locks:
+        while (yield exchange("lock", lock, 1)) != 0:
+            yield turn()
+    left = (yield look("balance", source)) - (yield load("units", i))
+    if left >= 0:
+        yield exchange("balance", source, left)
+        yield add("balance", target, (yield load("units", i)))
+    yield exchange("lock", locks[1], 0)
+    yield exchange("lock", locks[0], 0)
+
+
+def transfers_under_two_locks_in_two_orders(i):
+    return transfers_under_two_locks(i, in_two_orders=True)
+
+
+def mutex(_, lost=False):
+    if (yield compare_exchange("lock", 0, 0, 1)) != 0:
+        while (yield exchange("lock", 0, 2)) != 0:
+            yield turn()
+    entered = yield look("count", 0)
+    yield exchange("count", 0, entered + 1)
+    yield compare_exchange("lock", 0, 1, 0) if lost else exchange("lock", 0, 0)
+
+
+def mutex_that_is_lost(i):
+    return mutex(i, lost=True)
+
+
 def queue_of_numbers(i, early=False):
     if i < 4:
         place = yield draw("tail")
@@ -95,7 +138,7 @@ def queue_of_numbers(i, early=False):
         return
     place = yield draw("head")
     while (yield compare_exchange("full", place, 1, 0)) != 1:
-        pass
+        yield turn()
     number = yield exchange("slot", place, 0)
     if number == 0:
         yield ("fault", "6 divide_by_zero")
@@ -159,8 +202,9 @@ def union_find(e):
 
 
 NAMES = ["bids_under_a_lock", "bids_under_a_lock_that_stays", "compaction_by_tickets",
-         "compaction_by_tickets_that_are_read", "components", "components_without_the_loop", "queue_of_numbers",
-         "queue_of_numbers_with_an_early_flag", "union_find"]
+         "compaction_by_tickets_that_are_read", "components", "components_without_the_loop", "mutex",
+         "mutex_that_is_lost", "queue_of_numbers", "queue_of_numbers_with_an_early_flag", "transfers_under_two_locks",
+         "transfers_under_two_locks_in_two_orders", "union_find"]
 
 
 # ---- who goes next
@@ -191,7 +235,11 @@ class Chooser:
     """Counts how many atomic operations an item makes in a row."""
 
     def __init__(self):
-        self.item, self.count, self.asked = 0, 0, 0
+        self.item, self.count, self.asked, self.order = 0, 0, 0, None
+
+    def begin(self, order):
+        """Before the first event of an order."""
+        self.order = order
 
     def is_long(self, item):
         self.asked += 1
@@ -206,16 +254,16 @@ class Chooser:
 class InTurn(Chooser):
     """The lowest item first; one that waits lets the others behind it go."""
 
-    begin = 0
+    lowest = 0
 
     def switches(self, item):
         is_long = self.is_long(item)
-        self.begin = item + 1 if is_long else self.begin
+        self.lowest = item + 1 if is_long else self.lowest
         return is_long
 
     def choose(self, ready):
-        places = sorted(range(len(ready)), key=lambda at: ((ready[at] - self.begin) % (1 << 32), -at))
-        self.begin = 0
+        places = sorted(range(len(ready)), key=lambda at: ((ready[at] - self.lowest) % (1 << 32), -at))
+        self.lowest = 0
         return places[0] if places else None
 
 
@@ -252,23 +300,80 @@ class ByPriority(Chooser):
         return max(range(len(ready)), key=lambda at: (self.priorities[ready[at]], at), default=None)
 
 
+class Patient(InTurn):
+    """All items in turn, until it seems that none comes to a stop any more."""
+
+    def __init__(self):
+        super().__init__()
+        self.stops, self.quiet, self.is_stuck = 0, 0, False
+
+    def switches(self, item):
+        self.quiet = self.quiet + 1 if self.stops == self.order.stops else 1
+        self.stops = self.order.stops
+        self.is_stuck = self.quiet > PATIENCE * len(self.order.ready)
+        return super().switches(item) or self.is_stuck
+
+    def choose(self, ready):
+        return None if self.is_stuck else super().choose(ready)
+
+
+class Alone(Chooser):
+    """The lowest item that can go on, alone, up to its next stop."""
+
+    chosen = False
+
+    def switches(self, item):
+        return not self.chosen
+
+    def choose(self, ready):
+        if self.chosen or not ready:
+            return None
+        self.chosen = True
+        return ready.index(min(ready))
+
+
+class Until(Chooser):
+    """The first atomic operations by one chooser, the rest by another one."""
+
+    def __init__(self, first, left, rest):
+        super().__init__()
+        self.first, self.left, self.rest = first, left, rest
+
+    def begin(self, order):
+        self.first.begin(order)
+        self.rest.begin(order)
+
+    def switches(self, item):
+        self.asked += 1
+        if self.left:
+            self.left -= 1
+            return self.first.switches(item)
+        return self.rest.switches(item)
+
+    def choose(self, ready):
+        return self.first.choose(ready) if self.left else self.rest.choose(ready)
+
+
 # ---- one order
 
 
 class Order:
     """One order of a launch's events: the buffers that it leaves, its events, and the fault that it shows, if one."""
 
-    def __init__(self, kernel, buffers, items, size, chooser):
+    def __init__(self, kernel, buffers, items, size, budget, chooser):
         self.buffers = {name: list(numbers) for name, numbers in buffers.items()}
-        self.size, self.chooser = size, chooser
+        self.size, self.budget, self.chooser = size, budget, chooser
         self.items = [kernel(item) for item in range(items)]
-        self.actions = [next(item, ("end",)) for item in self.items]
-        self.ready, self.running = list(range(items)), None
+        self.actions, self.ticks = [("end",)] * items, [0] * items
+        for item in range(items):
+            self.go_on(item, None)
+        self.ready, self.running, self.stops = list(range(items)), None, 0
         self.waiting = collections.defaultdict(list)
         self.intervals = collections.Counter()
         # of equal accesses the first one alone
         self.accesses = collections.defaultdict(dict)
         self.events, self.fault = [], None
+        chooser.begin(self)
         self.play()
 
     def next_item(self):
@@ -283,11 +388,12 @@ class Order:
         for _ in range(TURNS):
             item = self.next_item()
             if item is None:
-                return
+                break
             self.turn(item)
             if self.fault:
                 return
-        self.fault = "given up"
+        if any(action != ("end",) for action in self.actions):
+            self.fault = "given up"
 
     def turn(self, item):
         action = self.actions[item]
@@ -300,6 +406,7 @@ class Order:
             self.access(item, *action)
 
     def stop(self, item):
+        self.stops += 1
         self.ready[self.running] = self.ready[-1]
         self.ready.pop()
         self.running = None
@@ -335,10 +442,18 @@ class Order:
         return None
 
     def go_on(self, item, answer):
-        try:
-            self.actions[item] = self.items[item].send(answer)
-        except StopIteration:
-            self.actions[item] = ("end",)
+        """An item's next action: turns of loops take ticks alone."""
+        action = turn()
+        while action == turn():
+            try:
+                action = self.items[item].send(answer)
+            except StopIteration:
+                action = ("end",)
+            answer = None
+            self.ticks[item] += action[0] not in ("end", "fault")
+            if self.ticks[item] > self.budget:
+                action = ("fault", "8 budget")
+        self.actions[item] = action
 
     def schedule(self):
         runs = []
@@ -353,23 +468,55 @@ class Order:
 # ---- one order after another
 
 
-class Launch:
-    """The launch with `orders` of a script of the gallery: its kernel, its buffers, its sizes, its ticket."""
+def path_of(name):
+    """The script of a name: of the gallery, or of this folder."""
+    paths = (os.path.join(folder, f"{name}.txt") for folder in (GALLERY, HERE))
+    return next(path for path in paths if os.path.exists(path))
 
-    def __init__(self, name):
+
+class Launch:
+    """The launch with `orders` of a script: its kernel, its buffers, its sizes, its ticket, and the ticks of an item."""
+
+    def __init__(self, name, budget=BUDGET):
         spec = importlib.util.spec_from_file_location("check", os.path.join(GALLERY, "check.py"))
         check = importlib.util.module_from_spec(spec)
         spec.loader.exec_module(check)
-        script = check.Script(os.path.join(GALLERY, f"{name}.txt"))
+        script = check.Script(path_of(name))
         self.ticket = next(at for at, words in enumerate(script.commands) if words[-1] == "orders")
         self.items, self.size = (int(word) for word in script.commands[self.ticket][2:4])
         kernel = script.commands[self.ticket][1]
         self.names = [words[4] for words in script.commands[: self.ticket] if words[:2] == ["arg", kernel]]
         self.buffers = {it: script.ints(it) for it in self.names}
-        self.kernel = globals()[name]
+        self.kernel, self.budget = globals()[name], budget
 
-    def order(self, chooser):
-        return Order(self.kernel, self.buffers, self.items, self.size, chooser)
+    def order(self, seed, number, atomics, until, rest):
+        """An order by its number, from 0 on: so many atomic operations by its chooser, the rest by another one."""
+        chooser = Until(self.chooser(seed, number, atomics), until, rest)
+        return Order(self.kernel, self.buffers, self.items, self.size, self.budget, chooser)
+
+    def probed(self, seed, number, atomics, until):
+        """The same where it comes to no end so: with one item alone, up to its budget. None where it doesn't."""
+        rest = Patient()
+        self.order(seed, number, atomics, until, rest)
+        alone = self.order(seed, number, atomics, until, Alone()) if rest.is_stuck else None
+        return alone if alone and is_budget(alone.fault) else None
+
+    def settled(self, seed, number, atomics):
+        """An order as it ends: one that comes to no end as it does so soonest."""
+        order = self.order(seed, number, atomics, WORD, Patient())
+        if order.fault != "given up" and not is_budget(order.fault):
+            return order
+        low, high = 0, order.chooser.asked // 2
+        endless = self.probed(seed, number, atomics, high)
+        if not endless:
+            order.fault = "given up"
+            return order
+        while low < high:
+            middle = (low + high) // 2
+            found = self.probed(seed, number, atomics, middle)
+            endless = found or endless
+            low, high = (low, middle) if found else (middle + 1, high)
+        return endless
 
     def chooser(self, seed, number, asked):
         """Who goes next in an order, by its number from 0 on."""
@@ -380,6 +527,10 @@ class Launch:
         if number % 2 == 0:
             return ByChance(random, 2 << depth)
         return ByPriority(random, self.items, depth, asked)
+
+
+def is_budget(fault):
+    return fault is not None and fault.startswith("fault 8 ")
 
 
 def bytes_of(numbers):
@@ -397,15 +548,15 @@ def apart(names, one, other):
 
 def explored(launch, orders, seed):
     """What the orders of a launch show, in lines."""
-    asked, first, different, given_up, shown = 0, None, [], 0, []
+    atomics, first, different, given_up, shown = 0, None, [], 0, []
     for number in range(orders):
-        chooser = launch.chooser(seed, number, asked)
-        order = launch.order(chooser)
-        asked = chooser.asked if number == 0 else asked
+        order = launch.settled(seed, number, atomics)
+        atomics = order.chooser.asked if number == 0 else atomics
         if order.fault == "given up":
             given_up += 1
         elif order.fault:
-            shown = [f"launch 1: order {number + 1} shows a fault", f"ticket {launch.ticket}",
+            what = "comes to no end" if is_budget(order.fault) else "shows a fault"
+            shown = [f"launch 1: order {number + 1} {what}", f"ticket {launch.ticket}",
                      f"{order.fault} schedule {order.schedule()}"]
             break
         elif first is None:
@@ -421,17 +572,22 @@ def explored(launch, orders, seed):
 # ---- the program beside it
 
 
+def compared(lines):
+    """The lines that have to be the same: the program makes the schedule of a fault shorter."""
+    if lines[:1] and lines[0].endswith("shows a fault"):
+        return [line.partition(" schedule ")[0] if line.startswith("fault ") else line for line in lines]
+    return lines
+
+
 def is_same(program, name, wanted):
-    """Whether the program tells what is wanted; the schedule of a fault is replayed."""
-    script = os.path.join(GALLERY, f"{name}.txt")
-    options = wanted[1]
+    """Whether the program tells what is wanted; a schedule with a fault is replayed."""
+    script, options = path_of(name), wanted[1]
     ran = subprocess.run([program, "explore", script, *options], capture_output=True, text=True, check=False)
     lines = ran.stdout.splitlines()
-    front = [line.partition(" schedule ")[0] if line.startswith("fault ") else line for line in lines]
-    if front != [line.partition(" schedule ")[0] if line.startswith("fault ") else line for line in wanted[0]]:
+    if compared(lines) != compared(wanted[0]):
         print(f"{name} {' '.join(options)}: wanted {wanted[0]}, and not {lines} {ran.stderr}")
         return False
-    if not lines[0].endswith("shows a fault"):
+    if not lines[1:2] or not lines[1].startswith("ticket "):
         return ran.returncode == 0
     with tempfile.NamedTemporaryFile("w", suffix=".schedule") as file:
         file.write("\n".join(lines[1:3]) + "\n")

@@ -273,6 +273,20 @@ def bids_under_a_lock_that_stays(script):
     return bids_under_a_lock(script)
 
 
+def transfers_under_two_locks(script):
+    balance = script.ints("balance")
+    for source, target, units in zip(*(script.ints(name) for name in ("source", "target", "units"))):
+        moved = units if balance[source] >= units else 0
+        balance[source] -= moved
+        balance[target] += moved
+    return {"balance": packed(balance)}
+
+
+def transfers_under_two_locks_in_two_orders(script):
+    """In the order of the items none waits."""
+    return transfers_under_two_locks(script)
+
+
 def queue_of_numbers(script):
     """The queue is empty at its end."""
     shares = [2520 // number for number in script.ints("number")]

@@ -8,7 +8,6 @@ TEXT` of a source that clang doesn't build. The status is 0, or 2 where the inpu
 
 import json
 import re
-from urllib.parse import quote
 
 from reading import (
     Files, argument_texts, events_of, explanations, file_of, is_refusal, item_text, place_of, reason_texts, run,
@@ -94,6 +93,8 @@ def column_of(line, column):
 
 def location(whole, files, place, words=None):
     """A place of the script or the client's source: that of a work-item, or of a step, which has only its own text."""
+    # (a farm whose scripts are all clean writes a file without places)
+    from urllib.parse import quote  # pylint: disable=import-outside-toplevel
     number, column, line = place["script_line"], place["column"], files.of(place).get(place["script_line"])
     text, is_whole = place["text"], "length" in place and line is not None
     if is_whole:

@@ -1,4 +1,3 @@
-pub mod CommandLines
 mod Readings
 pub mod Replays
 mod Servings

@@ -1,7 +1,6 @@
 pub mod Checking
 pub mod Dumping
 pub mod Replaying
-pub mod CommandLine
 pub mod Serving
 pub mod Serves
 pub use Rattle.byte_io.specs.Sink

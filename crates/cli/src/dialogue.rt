@@ -11,8 +11,9 @@ ghost use Rattle.cli.specs.Serving.{Served, ServeFailed};
 ghost use Rattle.cli.specs.Serves.{Serves};
 ghost use Rattle.limits.specs.declared.Configuration.{Configuration};
 
-use crate::session::{Options, RunEnd, one_end};
+use crate::session::{RunEnd, one_end};
 use byte_io::Peer;
+use command_line::options::Options;
 use device::{Device, OpenGate};
 use serving::Server;
 use simfile::faults::RunFault;

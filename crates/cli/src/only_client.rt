@@ -9,8 +9,9 @@ ghost use Rattle.host_queue.specs.declared.view.Request.TheVariants.{Answered};
 ghost use Rattle.host_queue.specs.Clients.{IsOnly};
 ghost use Rattle.host_queue.specs.Seats.{answered_count};
 
-use crate::session::Options;
-use device::{Device, Driver, OpenGate, open};
+use crate::watching::Watch;
+use command_line::options::Options;
+use device::{Device, Driver, open};
 use host_commands::command::{Command, Reply};
 use host_queue::{Client, Queue, Request};
 use std::alloc::{AllocError, Global};
@@ -43,21 +44,27 @@ impl OnlyClient {
         })
     }
 
-    /// Draws a ticket for a command, does it at once, and leaves its reply in the box.
-    pub(crate) fn ask<T: Threads + Wait + Sync>(
+    /// Draws a ticket for a command, does it at once between two calls of who looks on, and leaves its reply in the
+    /// box.
+    pub(crate) fn ask<T: Threads + Wait + Sync, L: Watch>(
         &mut self,
         rt: &T,
         mut request: Box<Request<Command, Reply>>,
         command: Command,
+        watch: &L,
     ) -> Box<Request<Command, Reply>>
         requires room { answered_count self.old.driver.driver.seat < 4096 }
         ensures answered { (reply : ReplyOf) × (box_value result ≡ Answered reply) × Step (machine_of self.old.driver.driver.machine) command reply (machine_of self.new.driver.driver.machine) }
         ensures counts { answered_count self.new.driver.driver.seat ≡ answered_count self.old.driver.driver.seat + 1 }
     {
+        watch.begin(&command);
         *request = Request::Asked(command);
         let (driver, client) = (&mut self.driver, &mut self.client);
-        match driver.answer_with(rt, &self.queue, client, request, &OpenGate) {
-            Ok(request) => request,
+        match driver.answer_with(rt, &self.queue, client, request, watch) {
+            Ok(request) => {
+                watch.end();
+                request
+            }
             Err(_) => unreachable!(),
         }
     }

@@ -1,57 +1,30 @@
 //! A whole run: a script in, its replies out.
 #![tactic(auto)]
 
-ghost use Rattle.std.specs.Prelude.{◌≡◌, ◌≤◌, ◌++◌, IfOk, IfErr, OnErr, [], length};
+ghost use Rattle.std.specs.Prelude.{◌≡◌, ◌≤◌, IfOk, IfErr, OnErr, [], length};
 ghost use Rattle.device.specs.Machine.{machine_of, opening};
 ghost use Rattle.host_commands.specs.declared.command.Reply.{Reply as ReplyOf};
 ghost use Rattle.host_queue.specs.declared.view.Request.TheVariants.{Answered as AnsweredBy};
 ghost use Rattle.byte_io.specs.Sink.{Puts, Wrote, Stopped};
-ghost use Rattle.simfile.specs.Lines.{line};
-ghost use Rattle.cli.specs.Session.{one_end, front_of, behind, Answered, Broken, Unanswered, Ran, Failed, status_of};
+ghost use Rattle.showing.specs.Shown.{next_line};
+ghost use Rattle.cli.specs.Session.{one_end, Answered, Broken, Unanswered, Ran, Failed, status_of};
 ghost use Rattle.host_queue.specs.Seats.{answered_count};
 ghost use Rattle.limits.specs.declared.Configuration.{Configuration as ConfigurationOf};
 
 use crate::only_client::OnlyClient;
 use crate::reading::commands_of;
-use byte_io::pieces::{Piece, write_pieces};
+use crate::watching::Watch;
 use byte_io::{Read, Write, WriteFailed};
+use command_line::options::Options;
+use device::OpenGate;
 use host_commands::command::{Command, Reply};
 use host_queue::Request;
-use limits::{Configuration, Limits};
+use showing::{Shown, behind, write_next};
 use simfile::faults::RunFault;
-use simfile::replies::write_reply;
 use std::alloc::Global;
 use std::marker::Sync;
 use std::sync::Wait;
 use std::thread::Threads;
-
-/// What is given to a run beside its script.
-#[derive(Clone, Copy, Debug, PartialEq, Eq)]
-pub struct Options {
-    /// What the device is made with
-    pub configuration: Configuration,
-    /// How many workers run a launch, from 1 to 16. No reply depends on it
-    pub workers: u32,
-    pub ghost counted: { (1 ≤ workers) × (workers ≤ 16) },
-}
-
-impl Options {
-    /// The number of workers where none is given.
-    pub const DEFAULT_WORKERS: u32 = 1;
-}
-
-impl Default for Options {
-    ghost use Rattle.limits.specs.Limits.{profile};
-
-    ghost is_default = { λ options. (options.configuration.limits ≡ profile) × (options.configuration.budget ≡ 100000) × (options.workers ≡ 1) };
-
-    fn default() -> Self {
-        Options {
-            configuration: Configuration::of(Limits::profile()),
-            workers: Self::DEFAULT_WORKERS,
-        }
-    }
-}
 
 /// What the replies of a run come to.
 #[derive(Clone, Copy, Debug, PartialEq, Eq)]
@@ -79,83 +52,71 @@ pub fn one_end(reply: &Reply, end: RunEnd) -> RunEnd
     }
 }
 
-/// Writes the first of the numbers as it stands in front of a line, where one is left.
-fn write_number<W: Write>(numbers: &[usize], writer: &mut W) -> Result<(), WriteFailed>
-    ensures { Puts (W.sink writer.old) result (W.sink writer.new) (front_of numbers.now) }
-{
-    match numbers.split_first() {
-        Some((number, _)) => write_pieces(
-            &[Piece::Number(*number as u64), Piece::Text(": ")],
-            writer,
-        ),
-        None => Ok(()),
-    }
-}
-
-/// The numbers behind the first one.
-fn behind(numbers: &[usize]) -> &[usize]
-    ensures { result.now ≡ behind numbers.now }
-{
-    match numbers.split_first() {
-        Some((_, more)) => more,
-        None => numbers,
-    }
-}
-
-/// Writes a reply's line, behind the first of the numbers. Answers what the replies come to with this one.
+/// Writes a reply's line, as the first of these shows it. Answers what the replies come to with this one.
 fn write_answer<W: Write>(
     reply: &Reply,
-    numbers: &[usize],
+    shows: &[Shown],
     end: RunEnd,
     writer: &mut W,
 ) -> Result<RunEnd, WriteFailed>
-    ensures ok { IfOk result (λ next. Wrote (W.sink writer.old) (W.sink writer.new) (front_of numbers.now ++ line reply.now) × (next ≡ one_end reply.now end)) }
-    ensures err { OnErr result (Stopped (W.sink writer.old) (W.sink writer.new) (front_of numbers.now ++ line reply.now)) }
+    ensures ok { IfOk result (λ next. Wrote (W.sink writer.old) (W.sink writer.new) (next_line shows.now reply.now) × (next ≡ one_end reply.now end)) }
+    ensures err { OnErr result (Stopped (W.sink writer.old) (W.sink writer.new) (next_line shows.now reply.now)) }
 {
-    write_number(numbers, writer)?;
-    write_reply(reply, writer)?;
+    write_next(reply, shows, writer)?;
     Ok(one_end(reply, end))
 }
 
-/// Writes the line of the reply in a box, behind the first of the numbers.
+/// Writes the line of the reply in a box, as the first of these shows it.
 fn write_answered<W: Write>(
     request: &Request<Command, Reply>,
-    numbers: &[usize],
+    shows: &[Shown],
     end: RunEnd,
     writer: &mut W,
 ) -> Result<RunEnd, WriteFailed>
     requires answered { (reply : ReplyOf) × (request.now ≡ AnsweredBy reply) }
-    ensures ok { (reply : ReplyOf) → request.now ≡ AnsweredBy reply → IfOk result (λ next. Wrote (W.sink writer.old) (W.sink writer.new) (front_of numbers.now ++ line reply) × (next ≡ one_end reply end)) }
-    ensures err { (reply : ReplyOf) → request.now ≡ AnsweredBy reply → OnErr result (Stopped (W.sink writer.old) (W.sink writer.new) (front_of numbers.now ++ line reply)) }
+    ensures ok { (reply : ReplyOf) → request.now ≡ AnsweredBy reply → IfOk result (λ next. Wrote (W.sink writer.old) (W.sink writer.new) (next_line shows.now reply) × (next ≡ one_end reply end)) }
+    ensures err { (reply : ReplyOf) → request.now ≡ AnsweredBy reply → OnErr result (Stopped (W.sink writer.old) (W.sink writer.new) (next_line shows.now reply)) }
 {
     match request {
-        Request::Answered(reply) => write_answer(reply, numbers, end, writer),
+        Request::Answered(reply) => write_answer(reply, shows, end, writer),
         Request::Asked(_) => unreachable!(),
     }
 }
 
-/// Performs the commands in order, all in the one box, and writes a line for each reply, the first ones behind these
-/// numbers.
-fn answer_all<T: Threads + Wait + Sync, W: Write>(
+/// Lets go of the lines so far, where the next command is a launch: that may take long.
+fn release<W: Write>(command: &Command, writer: &mut W) -> Result<(), WriteFailed>
+    ensures { Puts (W.sink writer.old) result (W.sink writer.new) [] }
+{
+    match command {
+        Command::Launch { .. } => writer.flush(),
+        _ => Ok(()),
+    }
+}
+
+/// Performs the commands in order, all in the one box, each between two calls of who looks on, and writes a line for
+/// each reply, the first ones as these show them.
+fn answer_all<T: Threads + Wait + Sync, W: Write, L: Watch>(
     rt: &T,
     client: &mut OnlyClient,
     mut request: Box<Request<Command, Reply>>,
     commands: Vec<Command>,
-    numbers: &[usize],
+    shows: &[Shown],
     writer: &mut W,
+    watch: &L,
 ) -> Result<RunEnd, WriteFailed>
     requires new { answered_count client.old.driver.driver.seat ≡ 0 }
     requires few { length commands.items ≤ 4096 }
-    ensures ok { IfOk result (λ end. (configuration : ConfigurationOf) → machine_of client.old.driver.driver.machine ≡ opening configuration → Answered numbers.now configuration commands.items (W.sink writer.old) (W.sink writer.new) end) }
-    ensures err { OnErr result ((configuration : ConfigurationOf) → machine_of client.old.driver.driver.machine ≡ opening configuration → Broken numbers.now configuration commands.items (W.sink writer.old) (W.sink writer.new)) }
+    ensures ok { IfOk result (λ end. (configuration : ConfigurationOf) → machine_of client.old.driver.driver.machine ≡ opening configuration → Answered shows.now configuration commands.items (W.sink writer.old) (W.sink writer.new) end) }
+    ensures err { OnErr result ((configuration : ConfigurationOf) → machine_of client.old.driver.driver.machine ≡ opening configuration → Broken shows.now configuration commands.items (W.sink writer.old) (W.sink writer.new)) }
 {
     let mut end = RunEnd {
         faulted: false,
         refused: false,
     };
-    let mut left = numbers;
+    let mut left = shows;
     for command in commands {
-        request = client.ask(rt, request, command);
+        release(&command, writer)?;
+        request = client.ask(rt, request, command, watch);
         end = write_answered(&request, left, end, writer)?;
         left = behind(left);
     }
@@ -164,40 +125,43 @@ fn answer_all<T: Threads + Wait + Sync, W: Write>(
 }
 
 /// Performs the commands in order through the queue of a new device, and writes a line for each reply, the first ones
-/// behind these numbers. The queue and the box of all requests are made before anything is written.
-fn perform<T: Threads + Wait + Sync, W: Write>(
+/// as these show them. The queue and the box of all requests are made before anything is written.
+fn perform<T: Threads + Wait + Sync, W: Write, L: Watch>(
     rt: &T,
     alloc: Global,
     options: Options,
     commands: Vec<Command>,
-    numbers: &[usize],
+    shows: &[Shown],
     writer: &mut W,
+    watch: &L,
 ) -> Result<RunEnd, RunFault>
     requires few { length commands.items ≤ 4096 }
-    ensures ok { IfOk result (λ end. Answered numbers.now options.configuration commands.items (W.sink writer.old) (W.sink writer.new) end) }
-    ensures err { IfErr result (Unanswered numbers.now options.configuration commands.items (W.sink writer.old) (W.sink writer.new)) }
+    ensures ok { IfOk result (λ end. Answered shows.now options.configuration commands.items (W.sink writer.old) (W.sink writer.new) end) }
+    ensures err { IfErr result (Unanswered shows.now options.configuration commands.items (W.sink writer.old) (W.sink writer.new)) }
 {
     let mut client = OnlyClient::open(alloc, options)?;
     let request = Box::new(alloc, Request::Answered(Reply::Done))?;
-    Ok(answer_all(rt, &mut client, request, commands, numbers, writer)?)
+    Ok(answer_all(rt, &mut client, request, commands, shows, writer, watch)?)
 }
 
 /// Reads a script, hands its commands to the queue of a new device, each for the next ticket, and writes a line for
-/// each reply, in order and nothing else but these numbers in front of the first lines.
-pub fn run_numbered<T: Threads + Wait + Sync, R: Read, W: Write>(
+/// each reply, in order and nothing else, the first ones as these show them. Each command is done between two calls of
+/// who looks on, and none of the lines so far is held back while a launch runs.
+pub fn run_shown<T: Threads + Wait + Sync, R: Read, W: Write, L: Watch>(
     rt: &T,
     alloc: Global,
     reader: &mut R,
-    numbers: &[usize],
+    shows: &[Shown],
     writer: &mut W,
     options: Options,
+    watch: &L,
 ) -> Result<RunEnd, RunFault>
-    ensures ran { IfOk result (Ran numbers.now (R.rest reader.old) options.configuration (W.sink writer.old) (W.sink writer.new)) }
+    ensures ran { IfOk result (Ran shows.now (R.rest reader.old) options.configuration (W.sink writer.old) (W.sink writer.new)) }
     ensures failed { IfErr result
-        (Failed numbers.now (R.rest reader.old) (R.failures reader.old) (R.failures reader.new) options.configuration (W.sink writer.old) (W.sink writer.new)) }
+        (Failed shows.now (R.rest reader.old) (R.failures reader.old) (R.failures reader.new) options.configuration (W.sink writer.old) (W.sink writer.new)) }
 {
     let commands = commands_of(alloc, reader)?;
-    perform(rt, alloc, options, commands, numbers, writer)
+    perform(rt, alloc, options, commands, shows, writer, watch)
 }
 
 /// Reads a script, hands its commands to the queue of a new device, each for the next ticket, and writes a line for
@@ -213,7 +177,7 @@ pub fn run<T: Threads + Wait + Sync, R: Read, W: Write>(
     ensures failed { IfErr result
         (Failed [] (R.rest reader.old) (R.failures reader.old) (R.failures reader.new) options.configuration (W.sink writer.old) (W.sink writer.new)) }
 {
-    run_numbered(rt, alloc, reader, &[], writer, options)
+    run_shown(rt, alloc, reader, &[], writer, options, &OpenGate)
 }
 
 /// The status of a run: 2 where a command was refused or the run failed, else 1 where a launch faulted, else 0.

@@ -5,8 +5,9 @@ use crate::scripts::{
     ORDERS, ORDERS_REPLIES, RACE, RACE_REPLIES, REFUSED, REFUSED_REPLIES, SUM, SUM_REPLIES,
 };
 use byte_io::{Input, Output};
-use cli::session::{Options, RunEnd};
+use cli::session::RunEnd;
 use cli::{Reader, RunFault, run};
+use command_line::Options;
 use std::alloc::Global;
 use std::io;
 use std::io::{BufWriter, Error, ErrorKind};
@@ -63,10 +64,12 @@ impl io::Read for Failing {
     }
 }
 
-/// A script, the text of its replies and what these come to.
+/// A script, the text of its replies and what these come to, and how many bytes of it stand in front of the reply to its
+/// launch, where it has one.
 struct Row {
     script: &'static str,
     replies: &'static str,
+    in_front: Option<usize>,
     end: RunEnd,
 }
 
@@ -76,6 +79,7 @@ const ROWS: [Row; 4] = [
     Row {
         script: SUM,
         replies: SUM_REPLIES,
+        in_front: Some(30),
         end: RunEnd {
             faulted: false,
             refused: false,
@@ -84,6 +88,7 @@ const ROWS: [Row; 4] = [
     Row {
         script: ORDERS,
         replies: ORDERS_REPLIES,
+        in_front: Some(12),
         end: RunEnd {
             faulted: false,
             refused: false,
@@ -92,6 +97,7 @@ const ROWS: [Row; 4] = [
     Row {
         script: RACE,
         replies: RACE_REPLIES,
+        in_front: Some(12),
         end: RunEnd {
             faulted: true,
             refused: false,
@@ -100,6 +106,7 @@ const ROWS: [Row; 4] = [
     Row {
         script: REFUSED,
         replies: REFUSED_REPLIES,
+        in_front: None,
         end: RunEnd {
             faulted: false,
             refused: true,
@@ -144,7 +151,16 @@ fn reads_well<W: Threads + Wait + Sync>(
     Ok(answer == Err(RunFault::Read(Reader::First)) && written.is_empty())
 }
 
-/// Whether a run with so many writes answers as it must: replies take a write for each byte, and a flush.
+/// How many bytes come out of so many writes and flushes: a write for each byte, a flush in front of the launch, since
+/// that may take long, and one at the end.
+fn bytes_out(row: &Row, calls: usize) -> usize {
+    match row.in_front {
+        Some(bytes) if calls > bytes => calls.saturating_sub(1),
+        Some(_) | None => calls,
+    }
+}
+
+/// Whether a run with so many writes and flushes answers as it must.
 fn writes_well<W: Threads + Wait + Sync>(
     rt: &W,
     alloc: Global,
@@ -152,11 +168,11 @@ fn writes_well<W: Threads + Wait + Sync>(
     writes: usize,
 ) -> Result<bool, Fail> {
     let (answer, written) = run_over(rt, alloc, row.script, usize::MAX, writes)?;
-    let replies = row.replies.as_bytes();
-    if writes > replies.len() {
+    let (replies, bytes) = (row.replies.as_bytes(), bytes_out(row, writes));
+    if bytes > replies.len() {
         return Ok(answer == Ok(row.end) && written.as_slice() == replies);
     }
-    Ok(answer == Err(RunFault::Write) && written.len() == writes && replies.starts_with(&written))
+    Ok(answer == Err(RunFault::Write) && written.len() == bytes && replies.starts_with(&written))
 }
 
 /// The lowest count of reads with which a run doesn't answer as it must, from none to one more than it takes.
@@ -180,7 +196,7 @@ fn first_bad_write<W: Threads + Wait + Sync>(
     alloc: Global,
     row: &Row,
 ) -> Result<Option<usize>, Fail> {
-    for writes in 0..row.replies.len().saturating_add(3) {
+    for writes in 0..row.replies.len().saturating_add(4) {
         if !writes_well(rt, alloc, row, writes)? {
             return Ok(Some(writes));
         }

@@ -1,8 +1,8 @@
 -- Files that are explained: what is read, and what is written (own).
 use Rattle.std.specs.Prelude.{◌≡◌, ◌⊎◌, ℕ, Bool, Option, None, Some, option_map, List, [], if◌then◌else◌}
 use Rattle.cli.specs.Reading.{ReadFails}
-use Rattle.cli.specs.declared.wish.ExplainWish.{ExplainWish}
-use Rattle.cli.specs.declared.wish.ExploreWish.{ExploreWish}
+use Rattle.command_line.specs.declared.wish.ExplainWish.{ExplainWish}
+use Rattle.command_line.specs.declared.wish.ExploreWish.{ExploreWish}
 use Rattle.simfile.specs.declared.faults.Reader.{Reader}
 use Rattle.simfile.specs.declared.faults.Reader.TheVariants as reader
 use Rattle.simfile.specs.declared.faults.RunFault.{RunFault}

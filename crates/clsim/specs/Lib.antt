@@ -1,3 +1,4 @@
 pub mod Files
 pub mod Plain
+pub mod Shows
 pub mod Wide

@@ -12,7 +12,7 @@ use Rattle.simfile.specs.Faults.{NoScript}
 use Rattle.simfile.specs.declared.faults.Reader.TheVariants as reader
 use Rattle.simfile.specs.declared.faults.RunFault.{RunFault}
 use Rattle.simfile.specs.declared.faults.RunFault.TheVariants as fault
-use Rattle.wide_text.specs.Faults.{IsFaultAsides}
+use Rattle.wide_faults.specs.Faults.{IsFaultAsides}
 
 -- the answer to texts and the lines behind it were written
 pub record WidelyAnswered (options : ExplainOptions) (name script : List ℕ) (schedule : Option (List ℕ)) (asides : List ℕ) (old new : Sink) (answer : Bool) : Type 0 where

@@ -1,12 +1,12 @@
 //! Files explained: a script is read, with a schedule file where one is named, and the explanation is written.
 //!
-//! What is explained, which answer is given, and what is written, `explaining` defines, and `wide_text` what is written
-//! behind it of other bytes and numbers. A reader's failure is told apart from its faults.
+//! What is explained, which answer is given, and what is written, `explaining` defines, and `wide_faults` what is
+//! written behind it of other bytes and numbers. A reader's failure is told apart from its faults.
 #![tactic(auto)]
 
 ghost use Rattle.std.specs.Prelude.{◌≡◌, IfOk, IfErr};
 ghost use Rattle.std.specs.Option.{option_map};
-ghost use Rattle.wide_text.specs.Faults.{IsFaultAsides};
+ghost use Rattle.wide_faults.specs.Faults.{IsFaultAsides};
 ghost use Rattle.clsim.specs.Files.{IsGiven, Answered, Unanswered, ScriptTold, ScriptUntold, FileTold, FileUntold};
 ghost use Rattle.clsim.specs.Wide.{WidelyAnswered, WidelyUnanswered, WidelyTold, WidelyUntold};
 
@@ -16,7 +16,7 @@ use cli::reading::bytes_of;
 use explaining::{ExplainOptions, Given, explain};
 use simfile::faults::{Reader, RunFault};
 use std::alloc::Global;
-use wide_text::fault_asides;
+use wide_faults::fault_asides;
 
 /// The texts that are explained: the script's name, its bytes, and those of a schedule file, if one is named.
 #[derive(Drop)]

@@ -21,7 +21,9 @@ mod looks;
 mod named_file;
 mod passing;
 mod piped;
+mod progress;
 mod reporting;
+mod shows;
 mod version;
 mod written_file;
 
@@ -31,21 +33,22 @@ use crate::looks::Looks;
 use crate::named_file::{NamedFile, STANDARD_INPUT};
 use crate::passing::pass;
 use crate::piped::Piped;
+use crate::progress::Progress;
 use crate::reporting::{Told, tell, tell_place, tell_script, told_of};
+use crate::shows::ReplyStyle;
 use crate::version::print_version;
 use crate::written_file::WrittenFile;
 use byte_io::{Input, Output, StreamPeer};
 use clap::Error;
 use clap::error::ErrorKind;
 use cli::checking::{check_file, source_status};
-use cli::command_line::{Invocation, command};
 use cli::dialogue::serve;
 use cli::dumping::dump_file;
 use cli::reading::bytes_of;
 use cli::replaying::{replay_files, replay_status};
-use cli::session::{Options, RunEnd};
-use cli::wish::{ExplainWish, ExploreWish};
-use cli::{run, run_numbered, status};
+use cli::session::RunEnd;
+use cli::{OpenGate, Watch, run_shown, status};
+use command_line::{ExplainWish, ExploreWish, Invocation, Options, command};
 use explaining::{ExplainOptions, Format};
 use exploring::{ExploreEnd, ExploreOptions, explore, status as explore_status};
 use limits::{Configuration, Limits};
@@ -57,7 +60,7 @@ use std::process::ExitCode;
 use std::rt::{Clock, Files};
 use std::sync::Wait;
 use std::thread::Threads;
-use std::{env, io};
+use std::{env, io, thread};
 use wide_text::{Format as WideFormat, WideEnd, status as wide_status, widen};
 
 /// Standard output, to be written.
@@ -71,39 +74,78 @@ fn output_of<'a, R: Print + AllocGlobal>(
 }
 
 /// Runs a script, with the replies on standard output, and notes whether its reader is gone.
-fn run_script<R: Files + io::Input + Print + AllocGlobal + Threads + Wait + Sync>(
+fn run_script<R: Files + io::Input + Print + AllocGlobal + Threads + Wait + Sync, W: Watch>(
     rt: &R,
     script: &mut WrittenFile<'_, R>,
     options: Options,
+    watch: &W,
     gone: &mut bool,
 ) -> Result<RunEnd, RunFault> {
     let mut writer = output_of(rt)?;
-    let outcome = run(rt, rt.alloc(), script, &mut writer, options);
+    let outcome = run_shown(rt, rt.alloc(), script, &[], &mut writer, options, watch);
     *gone = writer.into_inner().is_gone();
     outcome
 }
 
-/// Runs a script, with the replies on standard output and the line of its command in front of each.
-fn run_with_lines<R: Files + io::Input + Print + AllocGlobal + Threads + Wait + Sync>(
+/// Runs a script, with the replies on standard output in a style.
+fn run_in_style<R: Files + io::Input + Print + AllocGlobal + Threads + Wait + Sync, W: Watch>(
     rt: &R,
     script: &mut WrittenFile<'_, R>,
     options: Options,
+    style: ReplyStyle,
+    watch: &W,
     gone: &mut bool,
 ) -> Result<RunEnd, RunFault> {
     let text = bytes_of(rt.alloc(), script, Reader::First)?;
-    let lines = script.lines(rt.alloc(), text.as_slice())?;
+    let shows = script.shows(rt.alloc(), text.as_slice(), style)?;
     let mut reader = Input::new(text.as_slice());
     let mut writer = output_of(rt)?;
-    let outcome = run_numbered(
+    let outcome = run_shown(
         rt,
         rt.alloc(),
         &mut reader,
-        lines.as_slice(),
+        shows.as_slice(),
         &mut writer,
         options,
+        watch,
     );
     *gone = writer.into_inner().is_gone();
     outcome
+}
+
+/// Runs a script, with its replies in a style.
+fn run_watched<R: Files + io::Input + Print + AllocGlobal + Threads + Wait + Sync, W: Watch>(
+    rt: &R,
+    script: &mut WrittenFile<'_, R>,
+    options: Options,
+    style: ReplyStyle,
+    watch: &W,
+    gone: &mut bool,
+) -> Result<RunEnd, RunFault> {
+    if style.lines || style.numbers {
+        run_in_style(rt, script, options, style, watch, gone)
+    } else {
+        run_script(rt, script, options, watch, gone)
+    }
+}
+
+/// Runs a script, and tells on standard error how far each launch has come that takes long. Where no thread can be
+/// started for that, nothing is told.
+fn run_told<R: Files + io::Input + Print + Eprint + Clock + AllocGlobal + Threads + Wait + Sync>(
+    rt: &R,
+    script: &mut WrittenFile<'_, R>,
+    options: Options,
+    style: ReplyStyle,
+    gone: &mut bool,
+) -> Result<RunEnd, RunFault> {
+    let progress = Progress::new(rt);
+    let progress = &progress;
+    thread::scope(thread::scope_env(), rt, |scope| {
+        let _ = scope.spawn(move || progress.tell_all());
+        let outcome = run_watched(rt, script, options, style, progress, gone);
+        progress.finish();
+        outcome
+    })
 }
 
 /// How many bytes of standard input are read at once.
@@ -354,21 +396,23 @@ fn end_explore<R: Files + Eprint>(
     explore_status(&outcome)
 }
 
-/// Runs the script of a file, with the line of its command in front of each reply or without, and gives the status.
-fn do_run<R: Files + io::Input + Print + Eprint + AllocGlobal + Threads + Wait + Sync>(
+/// Runs the script of a file, with its replies in a style, and gives the status. `told` says that a person is told how
+/// far a launch has come.
+fn do_run<R: Files + io::Input + Print + Eprint + Clock + AllocGlobal + Threads + Wait + Sync>(
     rt: &R,
     file: &str,
     options: Options,
-    lines: bool,
+    style: ReplyStyle,
+    told: bool,
 ) -> u8
     ensures { result ≤ 2 }
 {
     let mut script = WrittenFile::new(rt, file);
     let mut gone = false;
-    let outcome = if lines {
-        run_with_lines(rt, &mut script, options, &mut gone)
+    let outcome = if told {
+        run_told(rt, &mut script, options, style, &mut gone)
     } else {
-        run_script(rt, &mut script, options, &mut gone)
+        run_watched(rt, &mut script, options, style, &OpenGate, &mut gone)
     };
     end_run(rt, outcome, script.told(gone))
 }
@@ -559,8 +603,16 @@ fn perform<R: Files + io::Input + Print + Eprint + Clock + AllocGlobal + Threads
                 file,
                 options,
                 lines,
+                numbers,
+                quiet,
             },
-        ) => do_run(rt, file, options, lines),
+        ) => do_run(
+            rt,
+            file,
+            options,
+            ReplyStyle { lines, numbers },
+            watched && !quiet,
+        ),
         Ok(Invocation::Check { file, limits }) => do_check(rt, file, limits, watched),
         Ok(
             Invocation::Dump {

@@ -7,10 +7,11 @@ ghost use Rattle.clsim.specs.Plain.{IsPlainOf, Unturned};
 
 use crate::named_file::{NamedFile, STANDARD_INPUT, read_path};
 use crate::reporting::{Place, Told, tell_plain};
+use crate::shows::{ReplyStyle, text_shows, written_shows};
 use cli::{Read, ReadFault};
 use clmodel::text::Bytes;
+use showing::Shown;
 use simfile::faults::RunFault;
-use simfile::script::read_script;
 use std::alloc::{AllocError, AllocFailed, Global};
 use std::rt::Files;
 use std::{io, str};
@@ -173,15 +174,6 @@ fn plain_of(alloc: Global, script: Vec<u8>, files: &[SourceFile]) -> Result<Plai
     }
 }
 
-/// The lines in which the commands of a plain text stand, from 1: none where it is no script.
-fn command_lines(alloc: Global, text: &[u8]) -> Result<Vec<usize>, AllocError> {
-    match read_script(alloc, text) {
-        Ok(script) => script.places.iter().map(|place| place.line).collect(alloc),
-        Err(RunFault::OutOfMemory) => Err(AllocError),
-        Err(_) => Ok(Vec::new(alloc)),
-    }
-}
-
 /// A script that is opened when it is read, and given as a plain text. What it lacks is noted, and of one of version 3
 /// where its commands stand.
 #[derive(Drop)]
@@ -230,11 +222,17 @@ impl<'a, R: Files + io::Input> WrittenFile<'a, R> {
         }
     }
 
-    /// The lines of the script in which the commands of the text that was read stand, from 1.
-    pub(crate) fn lines(&self, alloc: Global, text: &[u8]) -> Result<Vec<usize>, AllocError> {
+    /// How the replies to the commands of the text that was read are shown: by the places of a script of version 3, or
+    /// else by those of the text.
+    pub(crate) fn shows(
+        &self,
+        alloc: Global,
+        text: &[u8],
+        style: ReplyStyle,
+    ) -> Result<Vec<Shown>, RunFault> {
         match &self.places {
-            Some(places) => places.iter().map(|place| place.line).collect(alloc),
-            None => command_lines(alloc, text),
+            Some(places) => Ok(written_shows(alloc, places.as_slice(), style)?),
+            None => text_shows(alloc, text, style),
         }
     }
 

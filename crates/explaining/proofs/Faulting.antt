@@ -18,7 +18,7 @@ use Rattle.host_commands.specs.declared.command.Refusal.{Refusal}
 use Rattle.host_commands.specs.declared.command.Reply.{Reply}
 use Rattle.host_commands.specs.declared.command.Reply.TheVariants as reply
 use Rattle.simfile.specs.Faults.{NoScript}
-use Rattle.telling.specs.Judged.{NoLaunch, Refuses, Tells, Untold}
+use Rattle.telling.specs.Judged.{LeadsThere, NoLaunch, Refuses, Tells, Untold}
 use Rattle.simfile.specs.declared.faults.RunFault.{RunFault}
 use Rattle.simfile.specs.declared.faults.RunFault.TheVariants as fault
 
@@ -78,6 +78,10 @@ faults old new c f runs (inl h) = go (first (row old c)) refl h
 launches : (m : Machine) (commands : List Command) (ticket : ℕ) (c : Command) (f : Fault) (runs : List EventRun) → slice_get commands ticket ≡ Some c → Faults m f runs c → NoLaunch commands ticket → ⊥
 launches m commands ticket (command.Launch kernel range orders) f runs at h none = none kernel range orders at
 launches m commands ticket _ f runs at h none = absurd h
+
+-- its schedule leads there
+pub leads_there : (m : Machine) (commands : List Command) (ticket : ℕ) (c : Command) (f : Fault) (runs : List EventRun) → slice_get commands ticket ≡ Some c → Faults m f runs c → LeadsThere m commands ticket f runs
+leads_there m commands ticket c f runs at h kernel range orders is = (subst (Faults m f runs) (some_inj c (command.Launch kernel range orders) (sym at ∙ is)) h).1
 
 -- it is explained
 pub told_yes :

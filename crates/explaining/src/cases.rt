@@ -1,10 +1,10 @@
 //! A fault of a launch explained, on the device that stood before the launch.
 #![tactic(auto)]
 
-ghost use Rattle.std.specs.Prelude.{IfErr, IfOk, IfSome, is_some};
+ghost use Rattle.std.specs.Prelude.{◌≡◌, true, IfErr, IfOk, IfSome, is_some};
 ghost use Rattle.device.specs.Machine.{machine_of};
 ghost use Rattle.simfile.specs.Places.{AreAt};
-ghost use Rattle.telling.specs.Judged.{Tells, Untold};
+ghost use Rattle.telling.specs.Judged.{LeadsThere, Tells, Untold};
 ghost use Rattle.telling.specs.Told.{HasWhole};
 ghost use Rattle.explaining.specs.Whole.{tell_options};
 
@@ -28,7 +28,8 @@ pub(crate) struct PerformedScript<'a> {
     pub done: &'a [bool],
 }
 
-/// Explains a case on a device to which the commands before its ticket led.
+/// Explains a case on a device to which the commands before its ticket led. A schedule that is known to lead there
+/// isn't replayed as a whole.
 pub(crate) fn explain_case(
     alloc: Global,
     device: &Device,
@@ -36,8 +37,10 @@ pub(crate) fn explain_case(
     ticket: usize,
     fault: &Fault,
     schedule: Schedule,
+    known: bool,
 ) -> Result<Option<ExplainedCase>, RunFault>
-    requires { AreAt performed.now.given.script.now performed.now.commands.now performed.now.places.now }
+    requires placed { AreAt performed.now.given.script.now performed.now.commands.now performed.now.places.now }
+    requires known { known ≡ true → LeadsThere (machine_of device.now) performed.now.commands.now ticket fault.now schedule }
     ensures told { IfOk result (λ found. Tells (machine_of device.now) performed.now.commands.now ticket fault.now schedule (is_some found)) }
     ensures whole { IfOk result (λ found. IfSome found (λ told. HasWhole (machine_of device.now) (tell_options performed.now.options) performed.now.given.name.now performed.now.given.script.now performed.now.commands.now performed.now.done.now ticket fault.now schedule told.schedule told.whole)) }
     ensures failed { IfErr result (Untold (machine_of device.now) performed.now.commands.now ticket) }
@@ -55,5 +58,5 @@ pub(crate) fn explain_case(
         places: performed.places,
         done: performed.done,
     };
-    telling::explain_case(alloc, device, &launched, ticket, fault, schedule)
+    telling::explain_case(alloc, device, &launched, ticket, fault, schedule, known)
 }

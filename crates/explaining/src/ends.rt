@@ -31,7 +31,15 @@ fn fault_text(
     ensures failed { IfErr result (NoScript performed.now.given.script.now) }
 {
     let (ticket, fault) = (case.ticket, case.fault);
-    let told = explain_case(alloc, device, performed, ticket, &fault, case.schedule)?;
+    let told = explain_case(
+        alloc,
+        device,
+        performed,
+        ticket,
+        &fault,
+        case.schedule,
+        true,
+    )?;
     let answer = answer_of(alloc, told, performed.options.format, "no\n")?;
     Ok(answer.text)
 }

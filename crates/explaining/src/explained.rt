@@ -57,7 +57,7 @@ fn told_at(
         places,
         done: done.as_slice(),
     };
-    explain_case(alloc, &device, &performed, ticket, fault, schedule)
+    explain_case(alloc, &device, &performed, ticket, fault, schedule, false)
 }
 
 /// Explains the case of a schedule file.

@@ -2,6 +2,7 @@
 
 use crate::chooser::{Chooser, Streak};
 use crate::random::Random;
+use crate::ready::Ready;
 
 /// Before an atomic operation it is drawn whether another item goes first, and which (own).
 #[derive(Drop)]
@@ -24,13 +25,15 @@ impl ByChance {
 }
 
 impl Chooser for ByChance {
-    fn switches(&mut self, item: u32) -> bool {
+    fn begin(&self, _ready: &mut Ready) {}
+
+    fn switches(&mut self, item: u32, _ready: &mut Ready) -> bool {
         let long = self.streak.is_long(item);
         let drawn = self.random.below(self.odds);
         long || drawn == 0
     }
 
-    fn choose(&mut self, ready: &[u32]) -> usize {
-        self.random.below(ready.len() as u64) as usize
+    fn choose(&mut self, ready: &Ready) -> Option<u32> {
+        ready.at(self.random.below(ready.count()))
     }
 }

@@ -2,6 +2,7 @@
 
 use crate::chooser::{Chooser, Streak};
 use crate::random::Random;
+use crate::ready::Ready;
 use std::alloc::{AllocError, Global};
 
 /// Each item draws a priority, and the highest that can go on does. At few atomic operations, drawn among all, the item
@@ -10,6 +11,7 @@ use std::alloc::{AllocError, Global};
 /// first. An item that waits for another one falls too.
 #[derive(Drop)]
 pub struct ByPriority {
+    /// The items' priorities at the start.
     priorities: Vec<u64>,
     /// Before which of the operations the priorities change, counted from 1 on.
     changes: Vec<u64>,
@@ -65,45 +67,29 @@ impl ByPriority {
             streak: Streak::new(),
         })
     }
-
-    /// An item's priority, the lowest of an item that it hasn't.
-    fn priority(&self, item: u32) -> u64 {
-        match self.priorities.as_slice().get(item as usize) {
-            Some(priority) => *priority,
-            None => 0,
-        }
-    }
-
-    /// An item falls below all others.
-    fn lower(&mut self, item: u32) {
-        self.lowest = self.lowest.saturating_sub(1);
-        if let Some(priority) = self.priorities.get_mut(item as usize) {
-            *priority = self.lowest;
-        }
-    }
 }
 
 impl Chooser for ByPriority {
-    fn switches(&mut self, item: u32) -> bool {
+    fn begin(&self, ready: &mut Ready) {
+        let mut item: u32 = 0;
+        for priority in &self.priorities {
+            ready.set_rank(item, *priority);
+            item = item.saturating_add(1);
+        }
+    }
+
+    fn switches(&mut self, item: u32, ready: &mut Ready) -> bool {
         self.asked = self.asked.saturating_add(1);
         let long = self.streak.is_long(item);
         if !long && !self.changes.as_slice().contains(&self.asked) {
             return false;
         }
-        self.lower(item);
+        self.lowest = self.lowest.saturating_sub(1);
+        ready.set_rank(item, self.lowest);
         true
     }
 
-    fn choose(&mut self, ready: &[u32]) -> usize {
-        let mut place = 0;
-        let mut most = 0;
-        for (at, item) in ready.iter().enumerate() {
-            let priority = self.priority(*item);
-            if priority >= most {
-                most = priority;
-                place = at;
-            }
-        }
-        place
+    fn choose(&mut self, ready: &Ready) -> Option<u32> {
+        ready.highest()
     }
 }

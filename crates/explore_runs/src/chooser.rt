@@ -1,14 +1,19 @@
 //! Who says which item goes next.
 
+use crate::ready::Ready;
+
 /// Who says which work-item goes next. Whatever it answers, an order is one of the launch's.
 pub trait Chooser {
+    /// Gives the items their ranks, before the first event.
+    fn begin(&self, ready: &mut Ready);
+
     /// Whether another item may go before this one makes its next atomic operation (OpenCL 1.2, section 6.12.11).
     /// Other accesses need no such question: where they don't race, their order counts for nothing.
-    fn switches(&mut self, item: u32) -> bool;
+    fn switches(&mut self, item: u32, ready: &mut Ready) -> bool;
 
-    /// The place in the list of the item that goes next, of those that are at no stop. It is asked where none is under
-    /// way. With a place that the list hasn't, the order ends.
-    fn choose(&mut self, ready: &[u32]) -> usize;
+    /// The item that goes next, of those that are at no stop. It is asked where none is under way. With no item, or
+    /// with another one, the order ends.
+    fn choose(&mut self, ready: &Ready) -> Option<u32>;
 }
 
 /// How many atomic operations an item has made in a row.

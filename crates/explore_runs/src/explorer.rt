@@ -1,6 +1,6 @@
 //! One order of a launch after another.
 
-ghost use Rattle.std.specs.Prelude.{◌≡◌, Some, IfOk, OnOk};
+ghost use Rattle.std.specs.Prelude.{◌≡◌, Some, OnOk};
 ghost use Rattle.clmodel.specs.Launch.{Launch as TheLaunch};
 ghost use Rattle.clmodel.specs.Next.{launch_of};
 ghost use Rattle.item_step.specs.Launches.{setup_of};
@@ -10,19 +10,13 @@ ghost use Rattle.explore_runs.specs.Explored.{AreLeft, Explores, IsFound};
 ghost use Rattle.explore_runs.specs.Orders.{IsLeft, IsOrderEnd};
 
 use crate::apart::{Place, first_apart};
-use crate::by_chance::ByChance;
-use crate::by_priority::ByPriority;
-use crate::chooser::Chooser;
+use crate::endless::settled;
 use crate::ends::{Complete, OrderEnd};
-use crate::in_turn::InTurn;
-use crate::order::play_order;
-use crate::random::Random;
+use crate::seed_order::{Followed, SeedOrder};
+use crate::until::Way;
 use clmodel::fault::Fault;
 use clmodel::schedule::Schedule;
 use item_step::Launch;
-use launches::laws::setups_are_runnable;
-use launches::{LoadedLaunch, group_count};
-use replay::copies;
 use spaces::Buffers;
 use std::alloc::{AllocError, Global};
 use std::mem::replace;
@@ -54,32 +48,12 @@ pub struct Explorer {
     seed: u64,
     /// How many orders were played.
     pub orders: u32,
-    /// How many of them were given up, or ended with an item's budget (own): an order may be unfair to it.
+    /// Of how many of them it isn't known whether they come to an end (own).
     pub given_up: u32,
     /// How many atomic operations the first order has.
     atomics: u64,
     pub left: Left,
     pub found: Option<Found>,
-}
-
-/// How many turns an order has at most (own).
-const TURNS: u32 = 1 << 20;
-
-/// One order of a launch by a chooser. The buffers that it is given stay as they are. An error is out of memory.
-fn order_of<C: Chooser>(
-    alloc: Global,
-    launch: &Launch<'_>,
-    buffers: &Buffers,
-    chooser: &mut C,
-) -> Result<OrderEnd, AllocError>
-    requires { HasGroups (setup_of launch.now) }
-    ensures { IfOk result (IsOrderEnd (launch_of (setup_of launch.now) (bytes_in buffers.now))) }
-{
-    setups_are_runnable();
-    let loaded = LoadedLaunch::new(alloc, launch, buffers);
-    let groups = group_count(launch);
-    let memory = copies(alloc, launch.buffer_names(), buffers)?;
-    play_order(alloc, &loaded, groups, memory, chooser, TURNS)
 }
 
 /// What is known of what complete orders left, with one more of them.
@@ -113,34 +87,13 @@ impl Explorer {
         }
     }
 
-    /// The next order: the first is the canonical one, and of the others each second is by priorities and each second
-    /// by chance. An error is out of memory.
-    fn next_end(
-        &mut self,
-        alloc: Global,
-        launch: &Launch<'_>,
-        buffers: &Buffers,
-    ) -> Result<OrderEnd, AllocError>
-        requires { HasGroups (setup_of launch.now) }
-        ensures left { self.new.left ≡ self.old.left }
-        ensures found { self.new.found ≡ self.old.found }
-        ensures ends { IfOk result (IsOrderEnd (launch_of (setup_of launch.now) (bytes_in buffers.now))) }
-    {
+    /// How many atomic operations the first order has, behind one more order.
+    fn atomics_with(&self, followed: &Followed) -> u64 {
         if self.orders == 0 {
-            let mut chooser = InTurn::new();
-            let end = order_of(alloc, launch, buffers, &mut chooser)?;
-            self.atomics = chooser.asked;
-            return Ok(end);
+            followed.asked
+        } else {
+            self.atomics
         }
-        let random = Random::of_order(self.seed, self.orders);
-        let depth = self.orders / 2 % 4;
-        if self.orders % 2 == 0 {
-            let mut chooser = ByChance::new(random, 2 << depth);
-            return order_of(alloc, launch, buffers, &mut chooser);
-        }
-        let items = group_count(launch).saturating_mul(launch.group_size());
-        let mut chooser = ByPriority::new(alloc, random, items, depth, self.atomics)?;
-        order_of(alloc, launch, buffers, &mut chooser)
     }
 
     /// Keeps what a complete order left.
@@ -152,15 +105,11 @@ impl Explorer {
         self.left = with_complete(left, complete);
     }
 
-    /// Keeps a fault where none was kept, but not that of an item's budget.
+    /// Keeps a fault where none was kept.
     fn add_fault(&mut self, found: Found)
         ensures left { self.new.left ≡ self.old.left }
         ensures found { (launch : TheLaunch) → IsFound launch self.old.found → IsFound launch (Some found) → IsFound launch self.new.found }
     {
-        if let Fault::Budget { .. } = found.fault {
-            self.given_up = self.given_up.saturating_add(1);
-            return;
-        }
         if self.found.is_none() {
             self.found = Some(found);
         }
@@ -183,8 +132,8 @@ impl Explorer {
         }
     }
 
-    /// Plays one more order of a launch, always of the same one, on the same buffers. A fault is kept where none was,
-    /// but not that of an item's budget. An error is out of memory.
+    /// Plays one more order of a launch, always of the same one, on the same buffers. A fault is kept where none was;
+    /// that of an item's budget only where the order comes to no end. An error is out of memory.
     pub fn play_next(
         &mut self,
         alloc: Global,
@@ -195,7 +144,14 @@ impl Explorer {
         requires explores { Explores (launch_of (setup_of launch.now) (bytes_in buffers.now)) self.old }
         ensures { OnOk result (Explores (launch_of (setup_of launch.now) (bytes_in buffers.now)) self.new) }
     {
-        let end = self.next_end(alloc, launch, buffers)?;
+        let order = SeedOrder {
+            seed: self.seed,
+            atomics: self.atomics,
+            number: self.orders,
+        };
+        let followed = order.play(alloc, launch, buffers, u64::MAX, Way::InTurn)?;
+        self.atomics = self.atomics_with(&followed);
+        let end = settled(alloc, launch, buffers, order, followed)?;
         self.note(end);
         Ok(())
     }

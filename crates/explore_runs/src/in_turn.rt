@@ -1,6 +1,7 @@
 //! The canonical order.
 
 use crate::chooser::{Chooser, Streak};
+use crate::ready::Ready;
 
 /// The order of the items' numbers, each up to its next stop: what the ordered run does (own). An item that waits for
 /// another one lets others go.
@@ -9,8 +10,6 @@ pub struct InTurn {
     streak: Streak,
     /// The item that goes next is the lowest from this one on, or else the lowest.
     from: u32,
-    /// How often it was asked whether another item may go.
-    pub asked: u64,
 }
 
 impl InTurn {
@@ -19,19 +18,14 @@ impl InTurn {
         InTurn {
             streak: Streak::new(),
             from: 0,
-            asked: 0,
         }
     }
 }
 
-/// An item's distance from another one on, in a ring of 2^32.
-fn distance(from: u32, item: u32) -> u32 {
-    item.wrapping_sub(from)
-}
-
 impl Chooser for InTurn {
-    fn switches(&mut self, item: u32) -> bool {
-        self.asked = self.asked.saturating_add(1);
+    fn begin(&self, _ready: &mut Ready) {}
+
+    fn switches(&mut self, item: u32, _ready: &mut Ready) -> bool {
         if !self.streak.is_long(item) {
             return false;
         }
@@ -39,17 +33,9 @@ impl Chooser for InTurn {
         true
     }
 
-    fn choose(&mut self, ready: &[u32]) -> usize {
-        let mut place = 0;
-        let mut least = u32::MAX;
-        for (at, item) in ready.iter().enumerate() {
-            let distance = distance(self.from, *item);
-            if distance <= least {
-                least = distance;
-                place = at;
-            }
-        }
+    fn choose(&mut self, ready: &Ready) -> Option<u32> {
+        let next = ready.next_from(self.from);
         self.from = 0;
-        place
+        next
     }
 }

@@ -25,8 +25,8 @@ use std::alloc::{AllocError, Global};
 
 /// The item that the chooser names of those that can go on, if there is such a one.
 fn choose<C: Chooser>(roster: &mut Roster, chooser: &mut C) -> Option<u32> {
-    let place = chooser.choose(roster.ready());
-    roster.run(place)
+    let item = chooser.choose(&roster.ready);
+    roster.run(item)
 }
 
 /// The item that goes next, where this one is under way: it goes on, unless it is about to make an atomic operation and
@@ -39,7 +39,7 @@ fn next_behind<D: Runnable, C: Chooser>(
 ) -> Result<Option<u32>, AllocError>
     ensures { (launch : Launch) (started : ℕ → Running) (state : State) → IsWatched D.launch D.started launch started watched.old state → IsWatched D.launch D.started launch started watched.new state }
 {
-    if is_atomic_next(watched, item)? && chooser.switches(item) {
+    if is_atomic_next(watched, item)? && chooser.switches(item, &mut roster.ready) {
         return Ok(choose(roster, chooser));
     }
     Ok(Some(item))
@@ -233,6 +233,7 @@ pub fn play_order<D: Runnable, C: Chooser>(
     let items = groups * size;
     let mut watched = Watched::new(alloc, launch, groups, buffers)?;
     let mut roster = Roster::new(alloc, items, groups, size)?;
+    chooser.begin(&mut roster.ready);
     let mut runs = Runs::new(alloc);
     let report = play_turns(
         alloc,

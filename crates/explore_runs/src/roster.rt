@@ -1,15 +1,16 @@
 //! Which items can go on, and which wait.
 
+use crate::ready::Ready;
 use std::alloc::{AllocError, Global};
 
 /// Which items of a launch can go on, and which wait, as far as is known. Nothing that is said of an order rests on it.
 #[derive(Drop)]
 pub(crate) struct Roster {
     group_size: u32,
-    /// The items that are at no stop, in any order.
-    ready: Vec<u32>,
-    /// The place there of the item that is under way, if one is.
-    running: Option<usize>,
+    /// The items that are at no stop.
+    pub ready: Ready,
+    /// The one of them that is under way, if one is.
+    running: Option<u32>,
     /// For each group, which of its items wait.
     groups: Vec<Waiting>,
 }
@@ -30,35 +31,28 @@ impl Roster {
         groups: u32,
         group_size: u32,
     ) -> Result<Self, AllocError> {
-        let mut ready = Vec::with_capacity(alloc, items as usize)?;
-        for item in 0..items {
-            ready.push(item)?;
-        }
         let mut waiting = Vec::with_capacity(alloc, groups as usize)?;
         waiting.resize(groups as usize, Waiting { count: 0, item: 0 })?;
         Ok(Roster {
             group_size,
-            ready,
+            ready: Ready::new(alloc, items)?,
             running: None,
             groups: waiting,
         })
     }
 
-    /// The items that are at no stop.
-    pub fn ready(&self) -> &[u32] {
-        self.ready.as_slice()
-    }
-
     /// The item that is under way, if one is.
     pub fn running(&self) -> Option<u32> {
-        let place = self.running?;
-        self.ready.as_slice().get(place).copied()
+        self.running
     }
 
-    /// The item at this place among those that are at no stop is under way now, if there is one.
-    pub fn run(&mut self, place: usize) -> Option<u32> {
-        self.running = Some(place);
-        self.running()
+    /// This item is under way now, if it is at no stop, and none without one.
+    pub fn run(&mut self, item: Option<u32>) -> Option<u32> {
+        self.running = match item {
+            Some(item) if self.ready.has(item) => Some(item),
+            _ => None,
+        };
+        self.running
     }
 
     /// An item of this group that waits, if one does.
@@ -73,11 +67,7 @@ impl Roster {
 
     /// The item that is under way, of this group, waits now.
     pub fn stop(&mut self, group: u32, item: u32) {
-        if let Some(place) = self.running {
-            if place < self.ready.len() {
-                self.ready.swap_remove(place);
-            }
-        }
+        self.ready.stop(item);
         self.running = None;
         if let Some(waiting) = self.groups.get_mut(group as usize) {
             waiting.count = waiting.count.saturating_add(1);
@@ -100,7 +90,7 @@ impl Roster {
         }
         let first = group.saturating_mul(self.group_size);
         for item in first..first.saturating_add(self.group_size) {
-            self.ready.push(item)?;
+            self.ready.go(item)?;
         }
         Ok(())
     }

@@ -1,6 +1,8 @@
 -- The lines that are written of orders and of commands (own).
 use Rattle.std.specs.Prelude.{◌==◌, ◌||◌, ℕ, Bool, true, false, not, Option, None, Some, is_some, List, [], ◌∷◌, ◌++◌, codes, decimal, slice_get, slice_index_or, if◌then◌else◌}
 use Rattle.byte_io.specs.Pieces.{joined}
+use Rattle.clmodel.specs.declared.fault.Fault.{Fault}
+use Rattle.clmodel.specs.declared.fault.Fault.TheVariants as fault
 use Rattle.clmodel.specs.declared.schedule.EventRun.{EventRun}
 use Rattle.explore_runs.specs.declared.apart.Place.{Place}
 use Rattle.fault_lines.specs.ScheduleFile.{ticket_line}
@@ -27,9 +29,19 @@ command_words ticket = joined (codes "command " ∷ decimal ticket ∷ codes ": 
 abbrev pub front_words : Spot → Bool → List ℕ
 front_words spot is_launch = if is_launch then launch_words spot.number else command_words spot.ticket
 
--- an order that shows a fault, and a schedule file
+-- whether a fault is the end of an item's budget
+abbrev pub is_budget : Fault → Bool
+is_budget (fault.Budget item) = true
+is_budget _ = false
+
+-- what an order shows: that it comes to no end, where an item uses up its budget, and else a fault
+abbrev pub order_words : ShownFault → List ℕ
+order_words shown =
+    if is_budget shown.fault then joined (codes "order " ∷ decimal shown.order ∷ codes " comes to no end\n" ∷ []) else joined (codes "order " ∷ decimal shown.order ∷ codes " shows a fault\n" ∷ [])
+
+-- what an order shows, and a schedule file
 abbrev pub fault_words : ℕ → ShownFault → List ℕ
-fault_words ticket shown = joined (codes "order " ∷ decimal shown.order ∷ codes " shows a fault\n" ∷ []) ++ (ticket_line ticket ++ fault_line shown.fault shown.schedule)
+fault_words ticket shown = order_words shown ++ (ticket_line ticket ++ fault_line shown.fault shown.schedule)
 
 abbrev pub shown_text : Spot → Option ShownFault → List ℕ
 shown_text spot None = []
@@ -75,7 +87,7 @@ count_words findings = joined (codes "clean in " ∷ decimal findings.orders ∷
 abbrev pub clean_text : Spot → Findings → List ℕ
 clean_text spot findings = launch_words spot.number ++ count_words findings
 
--- whether the orders of a launch have shown a fault, or left different bytes
+-- whether an order of a launch has shown a fault or comes to no end, or two have left different bytes
 abbrev pub has_findings : Findings → Bool
 has_findings findings = is_some findings.shown || is_some findings.apart
 

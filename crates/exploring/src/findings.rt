@@ -6,7 +6,7 @@ use clmodel::schedule::Schedule;
 use clmodel::text::Name;
 use explore_runs::{Complete, Place};
 
-/// A fault that an order showed.
+/// A fault that an order showed. Where it is the end of an item's budget, the order comes to no end.
 #[derive(Drop)]
 pub(crate) struct ShownFault {
     /// The number of the order, from 1 on.
@@ -38,7 +38,7 @@ pub(crate) struct Findings {
     pub apart: Option<ApartOrders>,
     /// How many were played.
     pub orders: u32,
-    /// How many of these were given up, or ended with an item's budget.
+    /// Of how many of these it isn't known whether they come to an end.
     pub given_up: u32,
 }
 

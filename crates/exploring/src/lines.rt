@@ -6,12 +6,13 @@ ghost use Rattle.byte_io.specs.Sink.{Puts};
 ghost use Rattle.fault_lines.specs.ScheduleFile.{ticket_line};
 ghost use Rattle.fault_lines.specs.Text.{fault_line, schedule_text};
 ghost use Rattle.simfile.specs.Lines.{line};
-ghost use Rattle.exploring.specs.Lines.{apart_text, byte_at, byte_text, byte_words, clean_text, command_words, count_words, fault_words, findings_text, front_words, given_up_words, has_findings, is_told, launch_words, missing_text, place_words, reply_text, schedule_line, schedule_lines, shown_text, told_text};
+ghost use Rattle.exploring.specs.Lines.{apart_text, byte_at, byte_text, byte_words, clean_text, command_words, count_words, fault_words, findings_text, front_words, given_up_words, has_findings, is_budget, is_told, launch_words, missing_text, order_words, place_words, reply_text, schedule_line, schedule_lines, shown_text, told_text};
 
 use crate::facts::Spot;
 use crate::findings::{ApartOrders, Findings, Manner, ShownFault};
 use byte_io::pieces::{Piece, write_number, write_pieces};
 use byte_io::{Write, WriteFailed};
+use clmodel::fault::Fault;
 use clmodel::schedule::Schedule;
 use clmodel::text::Bytes;
 use device::Reply;
@@ -77,14 +78,27 @@ fn write_file<W: Write>(
     fault_lines::write(&shown.fault, &shown.schedule, writer)
 }
 
-/// Writes that an order shows a fault, and a schedule file of it.
-fn write_fault<W: Write>(
-    ticket: usize,
-    shown: &ShownFault,
-    writer: &mut W,
-) -> Result<(), WriteFailed>
-    ensures { Puts (W.sink writer.old) result (W.sink writer.new) (fault_words ticket shown.now) }
+/// Whether a fault is the end of an item's budget.
+pub(crate) fn is_budget(fault: &Fault) -> bool
+    ensures { result ≡ is_budget fault.now }
 {
+    matches!(fault, Fault::Budget { .. })
+}
+
+/// Writes what an order shows: that it comes to no end, where an item uses up its budget, and else a fault.
+fn write_order<W: Write>(shown: &ShownFault, writer: &mut W) -> Result<(), WriteFailed>
+    ensures { Puts (W.sink writer.old) result (W.sink writer.new) (order_words shown.now) }
+{
+    if is_budget(&shown.fault) {
+        return write_pieces(
+            &[
+                Piece::Text("order "),
+                Piece::Number32(shown.order),
+                Piece::Text(" comes to no end\n"),
+            ],
+            writer,
+        );
+    }
     write_pieces(
         &[
             Piece::Text("order "),
@@ -92,11 +106,22 @@ fn write_fault<W: Write>(
             Piece::Text(" shows a fault\n"),
         ],
         writer,
-    )?;
+    )
+}
+
+/// Writes what an order shows, and a schedule file of it.
+fn write_fault<W: Write>(
+    ticket: usize,
+    shown: &ShownFault,
+    writer: &mut W,
+) -> Result<(), WriteFailed>
+    ensures { Puts (W.sink writer.old) result (W.sink writer.new) (fault_words ticket shown.now) }
+{
+    write_order(shown, writer)?;
     write_file(ticket, shown, writer)
 }
 
-/// Writes the fault that an order shows, if one does.
+/// Writes what an order shows, if one shows something.
 fn write_shown<W: Write>(
     spot: Spot,
     shown: &Option<ShownFault>,
@@ -270,7 +295,7 @@ fn write_clean<W: Write>(spot: Spot, findings: &Findings, writer: &mut W) -> Res
     write_count(findings, writer)
 }
 
-/// Writes the fault that an order shows, and that two left different bytes.
+/// Writes what an order shows, and that two left different bytes.
 fn write_both<W: Write>(spot: Spot, findings: &Findings, writer: &mut W) -> Result<(), WriteFailed>
     ensures { Puts (W.sink writer.old) result (W.sink writer.new) (shown_text spot findings.now.shown ++ apart_text spot findings.now.apart) }
 {
@@ -278,7 +303,7 @@ fn write_both<W: Write>(spot: Spot, findings: &Findings, writer: &mut W) -> Resu
     write_apart(spot, &findings.apart, writer)
 }
 
-/// Whether the orders of a launch have shown a fault, or left different bytes.
+/// Whether an order of a launch has shown a fault or comes to no end, or two have left different bytes.
 fn has_findings(findings: &Findings) -> bool
     ensures { result ≡ has_findings findings.now }
 {

@@ -1,7 +1,8 @@
 //! Orders of a launch, played one after another.
 #![tactic(auto)]
 
-ghost use Rattle.std.specs.Prelude.{◌≡◌, ℕ, List, [], IfOk, slice_index_or};
+ghost use Rattle.std.specs.Prelude.{◌≡◌, ℕ, List, [], Some, IfOk, slice_index_or};
+ghost use Rattle.clmodel.specs.Launch.{Launch as TheLaunch};
 ghost use Rattle.clmodel.specs.Law.{Reaches};
 ghost use Rattle.clmodel.specs.Next.{launch_of};
 ghost use Rattle.clmodel.specs.Outcome.{events_of};
@@ -13,6 +14,7 @@ ghost use Rattle.exploring.specs.Findings.{AreFound, IsApart, IsShown};
 
 use crate::facts::{Clock, ExploreOptions};
 use crate::findings::{ApartOrders, Findings, ShownFault};
+use crate::lines::is_budget;
 use clmodel::fault::Fault;
 use clmodel::schedule::Schedule;
 use clmodel::text::Name;
@@ -57,9 +59,9 @@ fn with_last(numbers: Numbers, explorer: &Explorer) -> Numbers {
     }
 }
 
-/// Plays orders of a launch, up to the first that shows a fault, to so many, or until the time is over. Each takes the
-/// time of its events, and while it is played memory for a copy of the launch's buffers, its items and its accesses.
-/// The bytes of two at most are kept. An error is out of memory.
+/// Plays orders of a launch, up to the first that shows a fault or comes to no end, to so many, or until the time is
+/// over. Each takes the time of its events, and while it is played memory for a copy of the launch's buffers, its items
+/// and its accesses. The bytes of two at most are kept. An error is out of memory.
 fn play_orders<C: Clock>(
     alloc: Global,
     launch: &Launch<'_>,
@@ -152,7 +154,19 @@ fn short_schedule(
     Ok(short.schedule)
 }
 
-/// A fault that an order showed, with a shorter schedule. An error is out of memory.
+/// A fault as an order showed it, with all its events.
+fn whole(found: Found) -> ShownFault
+    ensures { (launch : TheLaunch) → IsFound launch (Some found) → IsShown launch (Some result) }
+{
+    ShownFault {
+        order: found.order.saturating_add(1),
+        fault: found.fault,
+        schedule: found.schedule,
+    }
+}
+
+/// What an order showed: a fault, with a shorter schedule; or that it comes to no end, with all its events, since fewer
+/// may show another thing by the same item. An error is out of memory.
 fn shown_of(
     alloc: Global,
     launch: &Launch<'_>,
@@ -166,6 +180,9 @@ fn shown_of(
     let Some(found) = found else {
         return Ok(None);
     };
+    if is_budget(&found.fault) {
+        return Ok(Some(whole(found)));
+    }
     let schedule = short_schedule(alloc, launch, buffers, &found)?;
     Ok(Some(ShownFault {
         order: found.order.saturating_add(1),

@@ -1,6 +1,7 @@
 //! Who goes next, and the numbers of a seed.
 
-use explore_runs::{ByChance, ByPriority, Chooser, InTurn, Random};
+use explore_runs::{ByChance, ByPriority, Chooser, InTurn, Random, Ready};
+use std::alloc::{AllocError, Global};
 
 /// A seed, the number of an order, and the first two numbers of splitmix64 for that order, calculated apart. The sum of
 /// a seed and a number goes round at 2^64.
@@ -24,70 +25,127 @@ fn numbers_of_a_seed(rt: HostRuntime) {
     }
 }
 
+/// The items that go next, 6 at most. Each but the first comes behind one that went on for 64 operations, where the
+/// chooser wasn't asked in between. No item is told as 9, and so is one behind which nobody was to go.
+fn long_turns<C: Chooser>(chooser: &mut C, ready: &mut Ready) -> [u32; 6] {
+    let mut turns = [9; 6];
+    for place in 0..6 {
+        let Some(item) = chooser.choose(ready) else {
+            return turns;
+        };
+        if goes_on_long(chooser, ready, item) {
+            turns[place] = item;
+        }
+    }
+    turns
+}
+
 /// Whether an item goes on for 64 operations, and then lets others go.
-fn goes_on_long<C: Chooser>(chooser: &mut C, item: u32) -> bool {
+fn goes_on_long<C: Chooser>(chooser: &mut C, ready: &mut Ready, item: u32) -> bool {
     for _ in 0..64 {
-        if chooser.switches(item) {
+        if chooser.switches(item, ready) {
             return false;
         }
     }
-    chooser.switches(item)
+    chooser.switches(item, ready)
 }
 
-/// In turn the lowest item goes next; behind one that waited long the next higher one, or else the lowest.
-#[test]
-fn in_turn(rt: HostRuntime) {
+/// How items of which one is at a stop go in turn.
+fn in_turn(alloc: Global) -> Result<[u32; 6], AllocError> {
+    let mut ready = Ready::new(alloc, 4)?;
+    ready.stop(1);
+    Ok(long_turns(&mut InTurn::new(), &mut ready))
+}
+
+/// Which of two items goes behind one that waited long, and which behind that one.
+fn behind_long(alloc: Global) -> Result<(Option<u32>, Option<u32>), AllocError> {
+    let mut ready = Ready::new(alloc, 2)?;
     let mut chooser = InTurn::new();
-    assert_eq!(rt; chooser.choose(&[2, 0, 1]), 1);
-    assert!(rt; goes_on_long(&mut chooser, 0));
-    assert_eq!(rt; chooser.choose(&[2, 0, 1]), 2);
-    assert_eq!(rt; chooser.choose(&[2, 0, 1]), 1);
-    assert!(rt; goes_on_long(&mut chooser, 2));
-    assert_eq!(rt; chooser.choose(&[2, 0, 1]), 1);
-    assert_eq!(rt; chooser.asked, 130);
+    goes_on_long(&mut chooser, &mut ready, 0);
+    Ok((chooser.choose(&ready), chooser.choose(&ready)))
+}
+
+/// In turn goes behind an item that waited long the next higher one, or else the lowest; and where none waited long the
+/// lowest. One at a stop is passed over.
+#[test]
+fn items_in_turn(rt: HostRuntime) {
+    let Ok(turns) = in_turn(rt.alloc()) else {
+        panic!(rt; "out of memory")
+    };
+    assert!(rt; turns == [0, 2, 3, 0, 2, 3]);
+    let Ok((long, next)) = behind_long(rt.alloc()) else {
+        panic!(rt; "out of memory")
+    };
+    assert!(rt; long == Some(1) && next == Some(0));
+}
+
+/// Whether each of three items goes by chance in 200 draws.
+fn all_go(alloc: Global) -> Result<bool, AllocError> {
+    let ready = Ready::new(alloc, 3)?;
+    let mut chooser = ByChance::new(Random::new(1), 1 << 40);
+    let mut went = [false; 3];
+    for _ in 0..200 {
+        match chooser.choose(&ready) {
+            Some(0) => went[0] = true,
+            Some(1) => went[1] = true,
+            Some(2) => went[2] = true,
+            _ => return Ok(false),
+        }
+    }
+    Ok(went == [true; 3])
+}
+
+/// Whether an item lets others go by chance behind 64 operations, and each time where one in one does.
+fn lets_go(alloc: Global) -> Result<bool, AllocError> {
+    let mut ready = Ready::new(alloc, 3)?;
+    let mut seldom = ByChance::new(Random::new(1), 1 << 40);
+    let mut always = ByChance::new(Random::new(1), 1);
+    Ok(goes_on_long(&mut seldom, &mut ready, 2) && always.switches(0, &mut ready))
 }
 
 /// By chance each item that can go on goes some time, and none goes on for ever.
 #[test]
-fn by_chance(rt: HostRuntime) {
-    let mut chooser = ByChance::new(Random::new(1), 1 << 40);
-    assert!(rt; goes_on_long(&mut chooser, 3));
-    let mut went = [false; 3];
-    for _ in 0..200 {
-        let place = chooser.choose(&[5, 3, 4]);
-        assert!(rt; place < 3);
-        went[place] = true;
-    }
-    assert!(rt; went == [true; 3]);
-    // One in one lets another go each time.
-    assert!(rt; ByChance::new(Random::new(1), 1).switches(0));
+fn items_by_chance(rt: HostRuntime) {
+    assert!(rt; all_go(rt.alloc()).unwrap_or(false));
+    assert!(rt; lets_go(rt.alloc()).unwrap_or(false));
+}
+
+/// How three items go by priorities, without a change.
+fn by_priority(alloc: Global) -> Result<[u32; 6], AllocError> {
+    let mut ready = Ready::new(alloc, 3)?;
+    let mut chooser = ByPriority::new(alloc, Random::new(5), 3, 0, 0)?;
+    chooser.begin(&mut ready);
+    Ok(long_turns(&mut chooser, &mut ready))
 }
 
 /// By priorities an item that waited long falls below all others: three of them come in a ring.
 #[test]
-fn by_priority(rt: HostRuntime) {
-    let Ok(mut chooser) = ByPriority::new(rt.alloc(), Random::new(5), 3, 0, 0) else {
+fn items_by_priority(rt: HostRuntime) {
+    let Ok(ring) = by_priority(rt.alloc()) else {
         panic!(rt; "out of memory")
     };
-    let mut ring = [3; 6];
-    for place in 0..6 {
-        let item = chooser.choose(&[0, 1, 2]);
-        assert!(rt; item < 3 && chooser.choose(&[0, 1, 2]) == item);
-        assert!(rt; goes_on_long(&mut chooser, item as u32));
-        ring[place] = item;
-    }
+    assert!(rt; ring[0] < 3 && ring[1] < 3 && ring[2] < 3);
     assert!(rt; ring[0] != ring[1] && ring[1] != ring[2] && ring[2] != ring[0]);
     assert!(rt; ring[0] == ring[3] && ring[1] == ring[4] && ring[2] == ring[5]);
+}
+
+/// Which of two items goes first, which goes behind a change at the first operation, and whether that one goes on.
+fn a_change(alloc: Global) -> Result<(Option<u32>, Option<u32>, bool), AllocError> {
+    let mut ready = Ready::new(alloc, 2)?;
+    let mut chooser = ByPriority::new(alloc, Random::new(5), 2, 1, 1)?;
+    chooser.begin(&mut ready);
+    let first = chooser.choose(&ready);
+    chooser.switches(first.unwrap_or(9), &mut ready);
+    let second = chooser.choose(&ready);
+    let goes_on = !chooser.switches(second.unwrap_or(9), &mut ready);
+    Ok((first, second, goes_on))
 }
 
 /// A change at the first operation lets the item fall that would make it.
 #[test]
 fn a_change_of_priorities(rt: HostRuntime) {
-    let Ok(mut chooser) = ByPriority::new(rt.alloc(), Random::new(5), 2, 1, 1) else {
+    let Ok((first, second, goes_on)) = a_change(rt.alloc()) else {
         panic!(rt; "out of memory")
     };
-    let first = chooser.choose(&[0, 1]);
-    assert!(rt; first < 2 && chooser.switches(first as u32));
-    assert!(rt; chooser.choose(&[0, 1]) != first);
-    assert!(rt; !chooser.switches(1));
+    assert!(rt; first.is_some() && second.is_some() && first != second && goes_on);
 }

@@ -1,7 +1,7 @@
-//! Tests of launches with `orders`: small programs of atomic operations, right and with a mistake each, run in order
-//! and explored (`explored`); who goes next and the numbers of a seed (`choosers`); the first byte at which buffers
-//! differ (`differing`); and what the filter of races lets by (`filtered`). The contracts of `explore_runs` are met
-//! where nothing is found, and that of `race_filter` where nothing is let by.
+//! Tests of launches with `orders`: who goes next and the numbers of a seed (`choosers`); how the items that can go on
+//! are searched (`searches`); the first byte at which buffers differ (`differing`); and what the filter of races lets
+//! by (`filtered`). The contracts of `explore_runs` are met where nothing is found, and that of `race_filter` where
+//! nothing is let by. Whole orders are tested by rows of `clsim explore`, beside orders that Python plays.
 #![tactic(auto)]
 
 #[cfg(test)]
@@ -9,8 +9,6 @@ mod choosers;
 #[cfg(test)]
 mod differing;
 #[cfg(test)]
-mod explored;
-#[cfg(test)]
 mod filtered;
 #[cfg(test)]
-mod programs;
+mod searches;

@@ -21,7 +21,7 @@ use Rattle.item_step.specs.Launches as launches
 use Rattle.item_step.specs.declared.launch.Launch.{Launch}
 use Rattle.spaces.specs.Buffers.{bytes_in}
 use Rattle.spaces.specs.Tables.{Table}
-use Rattle.telling.specs.Judged.{Refuses, Tells}
+use Rattle.telling.specs.Judged.{LeadsThere, Refuses, Tells}
 use Rattle.telling.specs.declared.told.ExplainedCase.{ExplainedCase}
 
 -- two facts of what was answered
@@ -71,6 +71,17 @@ tells m commands ticket kernel range orders launch buffers f runs found at p e n
         → Decides (is_some o) (Reaches (launch_of (launches.setup_of launch) (bytes_in buffers)) (events_of runs) f)
     go None n s = (λ e. absurd (false≢true e), λ r. absurd (n r))
     go (Some told) n s = (λ _. s, λ _. refl)
+
+-- a schedule that leads there leads the launch that was prepared
+pub leads_prepared :
+    (m : Machine) (commands : List Command) (ticket : ℕ) (kernel : List ℕ) (range : Range) (orders : Bool) (launch : Launch) (buffers : Table (List ℕ)) (f : Fault) (runs : List EventRun)
+    → slice_get commands ticket ≡ Some (command.Launch kernel range orders) → IsPrepared m kernel range launch → buffers ≡ m.buffers → LeadsThere m commands ticket f runs
+    → Reaches (launch_of (launches.setup_of launch) (bytes_in buffers)) (events_of runs) f
+leads_prepared m commands ticket kernel range orders launch buffers f runs at p e leads =
+    subst (λ (s : Setup). R s buffers) (sym p.setup) (subst (λ (b : Table (List ℕ)). R (setup_of m (kernel_of m kernel) range) b) (sym e) (leads kernel range orders at))
+  where
+    R : Setup → Table (List ℕ) → Type 0
+    R s b = Reaches (launch_of s (bytes_in b)) (events_of runs) f
 
 -- a launch that is refused, and not for want of memory, is refused by its row
 pub refuses :

@@ -29,6 +29,12 @@ pub record Replays (m : Machine) (kernel : List ℕ) (range : Range) (f : Fault)
   pub admitted : first (launch_row m kernel range) ≡ None
   pub decides : Decides answer (Reaches (launch_of (setup_of m (kernel_of m kernel) range) (bytes_of m)) (events_of runs) f)
 
+-- where the command of a ticket is a launch, the schedule leads it to a state that shows the fault
+abbrev pub LeadsThere : Machine → List Command → ℕ → Fault → List EventRun → Type 0
+LeadsThere m commands ticket f runs =
+    (kernel : List ℕ) (range : Range) (orders : Bool) → slice_get commands ticket ≡ Some (command.Launch kernel range orders)
+    → Reaches (launch_of (setup_of m (kernel_of m kernel) range) (bytes_of m)) (events_of runs) f
+
 -- the command of a ticket is a launch that is judged so
 pub record Tells (m : Machine) (commands : List Command) (ticket : ℕ) (f : Fault) (runs : List EventRun) (answer : Bool) : Type 0 where
   pub kernel : List ℕ

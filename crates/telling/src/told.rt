@@ -1,7 +1,7 @@
 //! A fault of a launch explained, where a schedule leads to it.
 #![tactic(auto)]
 
-ghost use Rattle.std.specs.Prelude.{◌≡◌, ◌<◌, Some, length, IfOk, IfErr, IfSome, IfNone, is_some, slice_get, string_bytes};
+ghost use Rattle.std.specs.Prelude.{◌≡◌, ◌<◌, ◌≤◌, true, Decides, Some, length, IfOk, IfErr, IfSome, IfNone, IsTrue, is_some, slice_get, string_bytes};
 ghost use Rattle.clmodel.specs.Law.{Reaches};
 ghost use Rattle.clmodel.specs.Next.{launch_of};
 ghost use Rattle.clmodel.specs.Outcome.{events_of};
@@ -12,12 +12,12 @@ ghost use Rattle.item_step.specs.Launches.{code_of, setup_of};
 ghost use Rattle.launches.specs.Groups.{HasGroups};
 ghost use Rattle.simfile.specs.Places.{AreAt};
 ghost use Rattle.spaces.specs.Buffers.{bytes_in};
-ghost use Rattle.telling.specs.Judged.{IsShort, NoLaunch, Tells, Untold};
+ghost use Rattle.telling.specs.Judged.{IsShort, LeadsThere, NoLaunch, Tells, Untold};
 ghost use Rattle.telling.specs.Told.{HasWhole, IsAsWanted, IsExplained, IsSourceOf, schedule_words};
 
 use crate::facts::{LaunchTexts, TellOptions, explanation_of, items_of, named_of, schedule_facts};
 use clmodel::fault::Fault;
-use clmodel::schedule::Schedule;
+use clmodel::schedule::{EventRun, Schedule};
 use clmodel::setup::Range;
 use clmodel::text::Name;
 use device::{Command, Device, Launch, Refusal};
@@ -41,6 +41,65 @@ pub struct ExplainedCase {
     pub schedule: Schedule,
 }
 
+/// Whether a run is of the group of one of two items.
+fn is_near(run: &EventRun, group_size: u32, items: (u32, u32)) -> bool {
+    let own = items.0.checked_div(group_size);
+    let other = items.1.checked_div(group_size);
+    let group = match run {
+        EventRun::Item { item, .. } => item.checked_div(group_size),
+        EventRun::Release { group } => Some(*group),
+    };
+    group == own || group == other
+}
+
+/// The runs of a schedule that are of the groups of two items. An error is out of memory.
+fn near_runs(
+    alloc: Global,
+    group_size: u32,
+    items: (u32, u32),
+    given: &Schedule,
+) -> Result<Schedule, AllocError> {
+    let mut runs = Vec::new(alloc);
+    for run in given.as_slice() {
+        if is_near(run, group_size, items) {
+            runs.push(*run)?;
+        }
+    }
+    Ok(Schedule::new(runs))
+}
+
+/// Whether a schedule is seen to have no more events than another.
+fn is_no_longer(short: &Schedule, given: &Schedule) -> bool
+    ensures { IsTrue result → length (events_of short.now) ≤ length (events_of given.now) }
+{
+    let count = event_count(short.as_slice());
+    count < u64::MAX && count <= event_count(given.as_slice())
+}
+
+/// The events of the groups of the items that a fault names, where these lead to it; else the given schedule. So what
+/// is shortened has few events, however many groups the launch has. An error is out of memory.
+fn near_given(
+    context: &Context<'_>,
+    buffers: &Buffers,
+    fault: &Fault,
+    given: Schedule,
+) -> Result<Schedule, AllocError>
+    requires groups { HasGroups (setup_of context.now.launch.now) }
+    requires leads { Reaches (launch_of (setup_of context.now.launch.now) (bytes_in buffers.now)) (events_of given) fault.now }
+    ensures { IfOk result (IsShort (launch_of (setup_of context.now.launch.now) (bytes_in buffers.now)) fault.now given) }
+{
+    let (alloc, launch) = (context.alloc, context.launch);
+    let near = near_runs(alloc, launch.group_size(), items_of(fault), &given)?;
+    if !is_no_longer(&near, &given) {
+        return Ok(given);
+    }
+    if replay(alloc, launch, buffers, &near, fault)? {
+        Ok(near)
+    } else {
+        Ok(given)
+    }
+}
+
 /// The schedule that is told: a shorter one, or the given one.
 fn chosen(
     context: &Context<'_>,
@@ -61,8 +120,9 @@ fn chosen(
         });
     }
     let (alloc, launch) = (context.alloc, context.launch);
-    let named = named_by(context, buffers, fault, &given)?;
-    shorter(alloc, launch, buffers, fault, &given, named.as_slice())
+    let near = near_given(context, buffers, fault, given)?;
+    let named = named_by(context, buffers, fault, &near)?;
+    shorter(alloc, launch, buffers, fault, &near, named.as_slice())
 }
 
 /// The items that a fault names, with the events of a schedule that are their accesses; none where it leads nowhere.
@@ -154,28 +214,48 @@ fn told_of(
     }))
 }
 
-/// An explanation of a schedule that leads a launch to a fault, if it leads there.
+/// Whether a schedule leads a launch to a fault. One that is known to lead there isn't replayed. An error is out of
+/// memory.
+fn leads_there(
+    context: &Context<'_>,
+    buffers: &Buffers,
+    fault: &Fault,
+    schedule: &Schedule,
+    known: bool,
+) -> Result<bool, AllocError>
+    requires groups { HasGroups (setup_of context.now.launch.now) }
+    requires known { known ≡ true → Reaches (launch_of (setup_of context.now.launch.now) (bytes_in buffers.now)) (events_of schedule.now) fault.now }
+    ensures { IfOk result (λ yes. Decides yes (Reaches (launch_of (setup_of context.now.launch.now) (bytes_in buffers.now)) (events_of schedule.now) fault.now)) }
+{
+    if known {
+        return Ok(true);
+    }
+    replay(context.alloc, context.launch, buffers, schedule, fault)
+}
+
+/// An explanation of a schedule that leads a launch to a fault, if it leads there, as it may be known to do.
 fn explain_launch(
     context: &Context<'_>,
     buffers: &Buffers,
     place: &LaunchTexts<'_>,
     fault: &Fault,
     schedule: Schedule,
-    as_given: bool,
+    known: bool,
 ) -> Result<Option<ExplainedCase>, AllocError>
-    requires { HasGroups (setup_of context.now.launch.now) }
+    requires groups { HasGroups (setup_of context.now.launch.now) }
+    requires known { known ≡ true → Reaches (launch_of (setup_of context.now.launch.now) (bytes_in buffers.now)) (events_of schedule) fault.now }
     ensures none { IfOk result (λ found. IfNone found (Reaches (launch_of (setup_of context.now.launch.now) (bytes_in buffers.now)) (events_of schedule) fault.now → ⊥)) }
     ensures leads { IfOk result (λ found. IfSome found (λ _. Reaches (launch_of (setup_of context.now.launch.now) (bytes_in buffers.now)) (events_of schedule) fault.now)) }
     ensures told { IfOk result (λ found. IfSome found (λ told. IsShort (launch_of (setup_of context.now.launch.now) (bytes_in buffers.now)) fault.now schedule told.schedule)) }
-    ensures wanted { IfOk result (λ found. IfSome found (λ told. IsAsWanted as_given schedule told.schedule)) }
+    ensures wanted { IfOk result (λ found. IfSome found (λ told. IsAsWanted place.now.options.as_given schedule told.schedule)) }
     ensures given { IfOk result (λ found. IfSome found (λ told. string_bytes told.whole.schedule.given ≡ schedule_words schedule)) }
     ensures whole { IfOk result (λ found. IfSome found (λ told. IsExplained place.now.options place.now.name.now (launch_of (setup_of context.now.launch.now) (bytes_in buffers.now)) (bytes_in buffers.now) context.now
         place.now.ticket place.now.place place.now.range.now place.now.orders fault.now told.schedule told.whole)) }
 {
-    let (alloc, launch) = (context.alloc, context.launch);
-    if !replay(alloc, launch, buffers, &schedule, fault)? {
+    if !leads_there(context, buffers, fault, &schedule, known)? {
         return Ok(None);
     }
+    let as_given = place.options.as_given;
     told_of(context, buffers, place, fault, schedule, as_given)
 }
 
@@ -243,8 +323,9 @@ fn launch_is_marked(launch: &Launch<'_>)
 }
 
 /// Explains a case on a device to which the commands before its ticket led: none, where the schedule doesn't lead the
-/// launch to the fault. The errors are out of memory, `NotALaunch` where no launch has the ticket, and `CommandRefused`
-/// where its launch is refused.
+/// launch to the fault. A schedule that is known to lead there, as that of the device's reply, isn't replayed as a
+/// whole. The errors are out of memory, `NotALaunch` where no launch has the ticket, and `CommandRefused` where its
+/// launch is refused.
 pub fn explain_case(
     alloc: Global,
     device: &Device,
@@ -252,8 +333,10 @@ pub fn explain_case(
     ticket: usize,
     fault: &Fault,
     schedule: Schedule,
+    known: bool,
 ) -> Result<Option<ExplainedCase>, RunFault>
-    requires { AreAt launched.now.script.now launched.now.commands.now launched.now.places.now }
+    requires placed { AreAt launched.now.script.now launched.now.commands.now launched.now.places.now }
+    requires known { known ≡ true → LeadsThere (machine_of device.now) launched.now.commands.now ticket fault.now schedule }
     ensures told { IfOk result (λ found. Tells (machine_of device.now) launched.now.commands.now ticket fault.now schedule (is_some found)) }
     ensures whole { IfOk result (λ found. IfSome found (λ told. HasWhole (machine_of device.now) launched.now.options launched.now.name.now launched.now.script.now launched.now.commands.now launched.now.done.now ticket fault.now schedule told.schedule told.whole)) }
     ensures failed { IfErr result (Untold (machine_of device.now) launched.now.commands.now ticket) }
@@ -285,13 +368,5 @@ pub fn explain_case(
         range,
         orders,
     };
-    let as_given = launched.options.as_given;
-    Ok(explain_launch(
-        &context,
-        device.buffers(),
-        &place,
-        fault,
-        schedule,
-        as_given,
-    )?)
+    Ok(explain_launch(&context, device.buffers(), &place, fault, schedule, known)?)
 }

@@ -6,7 +6,8 @@ use Rattle.std.proofs.lemmas.List.{append-nil}
 use Rattle.std.proofs.lemmas.List.Elements.{All-append, All-cons, All-nil}
 use Rattle.host_commands.specs.declared.command.Reply.{Reply}
 use Rattle.simfile.specs.Lines.{line}
-use Rattle.wide_text.specs.Told.{AreAsides, AreReplies, IsOneLine, aside}
+use Rattle.wide_sources.specs.Words.{IsOneLine}
+use Rattle.wide_text.specs.Told.{AreAsides, AreReplies, aside}
 
 pub no_asides : AreAsides []
 no_asides = ([], All-nil IsOneLine, refl)

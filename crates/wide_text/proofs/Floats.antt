@@ -3,8 +3,8 @@ use Rattle.std.proofs.Common.{◌≡◌, ℕ, List, [], ◌∷◌, Option, None,
 use Rattle.serde_json.specs.Data.{Data}
 use Rattle.serde_json.specs.View.{items_of}
 use Rattle.serde_json.specs.Written.{has_float, items_have_float}
+use Rattle.wide_sources.specs.declared.data.Deciding.{Deciding}
 use Rattle.wide_text.specs.Members.{number_data, or_null, code_data, deciding_data, buffer_data, argument_data, holds_data, launch_data, script_data, report_data}
-use Rattle.wide_text.specs.declared.data.Deciding.{Deciding}
 use Rattle.wide_text.specs.declared.data.FreeBuffer.{FreeBuffer}
 use Rattle.wide_text.specs.declared.data.WideLaunch.{WideLaunch}
 use Rattle.wide_text.specs.declared.data.WideReport.{WideReport}

@@ -1,6 +1,5 @@
 mod Beside
 mod Failing
-mod InKernel
 mod Floats
 mod Flagged
 mod Runs

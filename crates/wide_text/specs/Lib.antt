@@ -1,4 +1,3 @@
 pub mod Told
 pub mod Members
 pub mod Widened
-pub mod Faults

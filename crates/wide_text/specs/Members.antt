@@ -5,11 +5,10 @@ use Rattle.std.specs.declared.alloc.Global.{Global}
 use Rattle.serde_json.specs.Data.{Data, null, boolean, number, unsigned, string, array, object, member, no_members}
 use Rattle.serde_json.specs.View.{items_of}
 use Rattle.explanation.specs.declared.steps.Code.{Code}
-use Rattle.widening.specs.declared.decisions.Why.{Why}
-use Rattle.widening.specs.declared.decisions.Why.TheVariants as why
+use Rattle.wide_sources.specs.Words.{why_word}
+use Rattle.wide_sources.specs.declared.data.Deciding.{Deciding}
+use Rattle.wide_sources.specs.declared.data.FreeArgument.{FreeArgument}
 use Rattle.wide_text.specs.Told.{whole_text}
-use Rattle.wide_text.specs.declared.data.Deciding.{Deciding}
-use Rattle.wide_text.specs.declared.data.FreeArgument.{FreeArgument}
 use Rattle.wide_text.specs.declared.data.FreeBuffer.{FreeBuffer}
 use Rattle.wide_text.specs.declared.data.WideLaunch.{WideLaunch}
 use Rattle.wide_text.specs.declared.data.WideReport.{WideReport}
@@ -26,15 +25,6 @@ or_null f (Some x) = f x
 
 abbrev pub list_data : {A : Type 0} → (A → Data) → List A → Data
 list_data f xs = array (items_of (map f xs))
-
--- why a source decides
-abbrev pub why_word : Why → List ℕ
-why_word why.Address = codes "address"
-why_word why.Branch = codes "branch"
-why_word why.Division = codes "division"
-why_word why.Index = codes "index"
-why_word why.Dimension = codes "dimension"
-why_word why.UniformStore = codes "uniform store"
 
 -- what decides: an argument, where it has an index
 abbrev pub source_word : Option ℕ → List ℕ

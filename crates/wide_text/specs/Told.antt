@@ -1,20 +1,17 @@
 -- The text of a script whose replies hold for other bytes (own): the replies as a run writes them, lines beside them
 -- that no reply is, and a last line.
-use Rattle.std.specs.Prelude.{◌≡◌, ◌≢◌, ℕ, Bool, All, List, [], ◌∷◌, ◌++◌, drop, length, codes, decimal, ◌==◌, if◌then◌else◌}
+use Rattle.std.specs.Prelude.{◌≡◌, ℕ, Bool, All, List, [], ◌∷◌, ◌++◌, drop, length, codes, decimal, ◌==◌, if◌then◌else◌}
 use Rattle.std.specs.List.{flat_map}
 use Rattle.host_commands.specs.declared.command.Reply.{Reply}
 use Rattle.simfile.specs.Lines.{line}
 use Rattle.simfile.specs.declared.script.CommandPlace.{CommandPlace}
 use Rattle.widening.specs.Widened.{is_free_at}
+use Rattle.wide_sources.specs.Words.{IsOneLine}
 
 -- the lines of the commands whose flags are set
 abbrev pub lines_of : List Bool → List CommandPlace → List ℕ
 lines_of flags [] = []
 lines_of flags (place ∷ places) = (if is_free_at flags 0 then place.line ∷ [] else []) ++ lines_of (drop 1 flags) places
-
--- a text without a line feed
-abbrev pub IsOneLine : List ℕ → Type 0
-IsOneLine text = All (λ b. b ≢ 10) text
 
 -- a line that begins with two blanks, as no reply's does
 abbrev pub aside : List ℕ → List ℕ

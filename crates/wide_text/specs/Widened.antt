@@ -14,28 +14,13 @@ use Rattle.simfile.specs.declared.faults.RunFault.{RunFault}
 use Rattle.simfile.specs.declared.faults.RunFault.TheVariants as fault
 use Rattle.simfile.specs.declared.script.CommandPlace.{CommandPlace}
 use Rattle.wide_scripts.specs.Scripts.{IsWideScript, Runs}
+use Rattle.wide_sources.specs.Replies.{is_fault, is_refused}
 use Rattle.wide_text.specs.Members.{report_data}
 use Rattle.wide_text.specs.Told.{IsText, lines_of}
 use Rattle.wide_text.specs.declared.data.Format.{Format}
 use Rattle.wide_text.specs.declared.data.Format.TheVariants as format
 use Rattle.wide_text.specs.declared.data.WideEnd.{WideEnd}
 use Rattle.wide_text.specs.declared.data.WideReport.{WideReport}
-
-abbrev pub is_fault : Reply → Bool
-is_fault (reply.Fault fault schedule) = true
-is_fault reply.Done = false
-is_fault (reply.Data bytes) = false
-is_fault reply.Clean = false
-is_fault reply.Ordered = false
-is_fault (reply.Refused why) = false
-
-abbrev pub is_refused : Reply → Bool
-is_refused (reply.Refused why) = true
-is_refused reply.Done = false
-is_refused (reply.Data bytes) = false
-is_refused reply.Clean = false
-is_refused reply.Ordered = false
-is_refused (reply.Fault fault schedule) = false
 
 abbrev pub is_ordered : Reply → Bool
 is_ordered reply.Ordered = true

@@ -1,8 +1,7 @@
 //! What is told of a script whose replies hold for other bytes.
 #![tactic(auto)]
 
-use explanation::Code;
-use wide_scripts::Why;
+use wide_sources::{Deciding, FreeArgument};
 
 /// How it is written.
 #[derive(Clone, Copy, Debug, PartialEq, Eq)]
@@ -28,26 +27,6 @@ pub struct FreeBuffer {
     pub name: String,
     /// The line of the earliest write or fill of it since which no launch before this one depends on its bytes
     pub from: Option<usize>,
-}
-
-/// An argument for all of whose numbers the reply to a launch holds.
-#[derive(Drop)]
-pub struct FreeArgument {
-    pub index: usize,
-    /// The name of the parameter in the source
-    pub name: String,
-}
-
-/// A source of numbers on which the reply to a launch may depend, and the first place where it decides.
-#[derive(Drop)]
-pub struct Deciding {
-    /// The name of the buffer in the script, or of the argument's parameter in the source
-    pub name: String,
-    /// The index of an argument; None of a buffer
-    pub index: Option<usize>,
-    pub why: Why,
-    /// Where it decides, if that is known
-    pub code: Option<Code>,
 }
 
 /// A launch that wasn't refused, and for what its reply holds.

@@ -1,18 +1,18 @@
 //! What is told of a script, as JSON, by the kit's `serde_json`.
 #![tactic(auto)]
 
-ghost use Rattle.std.specs.Prelude.{◌≡◌, ◌++◌, [], ◌∷◌, string_bytes, option_copied, map, IfOk};
+ghost use Rattle.std.specs.Prelude.{◌≡◌, ◌++◌, [], ◌∷◌, string_bytes, IfOk};
 ghost use Rattle.serde_json.specs.Data.{Data};
 ghost use Rattle.serde_json.specs.View.{view};
 ghost use Rattle.serde_json.specs.Written.{compact_text};
 ghost use Rattle.wide_text.specs.Members.{number_data, code_data, deciding_data, buffer_data, argument_data, holds_data, launch_data, script_with, script_data, report_data, list_data, or_null, source_word};
 
-use crate::asides::why_word;
-use crate::data::{Deciding, FreeArgument, FreeBuffer, WideLaunch, WideReport};
+use crate::data::{FreeBuffer, WideLaunch, WideReport};
 use crate::text::whole_text;
 use explanation::Code;
 use serde_json::{Value, json};
 use std::alloc::{AllocError, Global};
+use wide_sources::{Deciding, FreeArgument, why_word};
 
 /// The version of the members' names and meanings. A member more doesn't change it.
 const VERSION: u32 = 1;

@@ -4,28 +4,20 @@
 //! its buffers and which numbers of its arguments the reply holds, and where the others decide; and at the end for all
 //! bytes of which writes and fills all replies hold. The script, its replies, the lines of the free commands and of the
 //! reads that may differ, and the errors are those defined. What is told behind a launch is only tested; that it stands
-//! in lines which no reply has is proved.
-//!
-//! `fault_asides` tells of the faults of a script, for who explains them, whether they are in their kernels or in their
-//! data. That a fault is said to be in its kernel only where the launch has it, by the same schedule, with whatever
-//! bytes and numbers, is proved (`laws`); the places where the data decide are only tested. The crate knows no file and
-//! no option's text.
+//! in lines which no reply has is proved. The crate knows no file and no option's text.
 #![tactic(auto)]
 
 mod asides;
 mod data;
-mod faults;
 mod gathering;
 mod json;
-pub mod laws;
 mod lines;
-mod sources;
 mod text;
 mod told_launches;
 mod widened;
 
-pub use data::{Deciding, Format, FreeArgument, FreeBuffer, WideEnd, WideLaunch, WideReport};
-pub use faults::fault_asides;
+pub use data::{Format, FreeBuffer, WideEnd, WideLaunch, WideReport};
 pub use json::json_of;
 pub use text::text_of;
+pub use wide_sources::{Deciding, FreeArgument};
 pub use widened::{status, widen};

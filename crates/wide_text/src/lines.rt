@@ -2,21 +2,11 @@
 #![tactic(auto)]
 
 ghost use Rattle.std.specs.Prelude.{◌≡◌, IfOk, ◌++◌, ◌∷◌, [], if◌then◌else◌, OnOk};
-ghost use Rattle.widening.specs.Widened.{is_free_at};
 ghost use Rattle.wide_text.specs.Told.{lines_of};
 
 use simfile::script::CommandPlace;
 use std::alloc::{AllocError, Global};
-
-/// Whether a flag is set, by its place.
-pub(crate) fn is_set(flags: &[bool], place: usize) -> bool
-    ensures { result ≡ is_free_at flags.now place }
-{
-    match flags.get(place) {
-        Some(flag) => *flag,
-        None => false,
-    }
-}
+use wide_sources::is_set;
 
 /// Adds a line, if it is one of those.
 fn push_if(lines: &mut Vec<usize>, line: usize, is_one: bool) -> Result<(), AllocError>

@@ -1,8 +1,7 @@
 //! What is told of a script, as text.
 #![tactic(auto)]
 
-ghost use Rattle.std.specs.Prelude.{◌≡◌, ◌++◌, List, ℕ, [], ◌∷◌, codes, decimal, string_bytes, IfOk, OnOk};
-ghost use Rattle.host_commands.specs.declared.command.Reply.{Reply as ReplyOf};
+ghost use Rattle.std.specs.Prelude.{◌≡◌, ◌++◌, [], decimal, string_bytes, IfOk, OnOk};
 ghost use Rattle.simfile.specs.Lines.{line};
 ghost use Rattle.wide_text.specs.Told.{AreAsides, AreReplies, IsText, bytes_text, lines_text, reads_text, rest_text, verdict_text, whole_text};
 

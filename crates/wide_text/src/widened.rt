@@ -4,12 +4,12 @@
 ghost use Rattle.std.specs.Prelude.{◌≡◌, ◌++◌, [], ◌∷◌, List, ℕ, IfOk, IfErr, OnOk};
 ghost use Rattle.std.specs.List.{list_any};
 ghost use Rattle.byte_io.specs.Sink.{Puts, Wrote};
-ghost use Rattle.device.specs.Machine.{opening};
 ghost use Rattle.serde_json.specs.Written.{compact_text};
 ghost use Rattle.simfile.specs.Faults.{NoScript};
+ghost use Rattle.wide_sources.specs.Replies.{is_fault, is_refused};
 ghost use Rattle.wide_text.specs.Members.{report_data};
 ghost use Rattle.wide_text.specs.Told.{lines_of};
-ghost use Rattle.wide_text.specs.Widened.{IsReport, IsTold, IsWidened, Unwidened, end_of, is_clean, is_fault, is_ordered, is_refused, status_of};
+ghost use Rattle.wide_text.specs.Widened.{IsReport, IsTold, IsWidened, Unwidened, end_of, is_clean, is_ordered, status_of};
 
 use crate::data::{Format, WideEnd, WideReport};
 use crate::json::json_of;
@@ -23,20 +23,7 @@ use simfile::faults::RunFault;
 use simfile::script::{Script, read_script};
 use std::alloc::{AllocError, Global};
 use wide_scripts::widen_script;
-
-/// Whether a reply is a fault.
-pub(crate) fn is_fault(reply: &Reply) -> bool
-    ensures { result ≡ is_fault reply.now }
-{
-    matches!(reply, Reply::Fault { .. })
-}
-
-/// Whether a reply is a refusal.
-pub(crate) fn is_refused(reply: &Reply) -> bool
-    ensures { result ≡ is_refused reply.now }
-{
-    matches!(reply, Reply::Refused(_))
-}
+use wide_sources::{is_fault, is_refused};
 
 /// Whether a reply is that of a launch that was ordered.
 fn is_ordered(reply: &Reply) -> bool

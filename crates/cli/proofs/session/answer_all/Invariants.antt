@@ -9,5 +9,5 @@ abbrev pub invariant-loop-command : goal.invariant-loop-command
 invariant-loop-command g l = record {
   split : l.fn.commands.items ≡ l.yielded ++ into_iter_items l.command-iterator;
   counts : length l.client.driver.driver.seat.me.0.known ≡ length l.yielded;
-  answered : (configuration : Configuration) → machine_of l.initial.client.driver.driver.machine ≡ opening configuration → HasAnswered l.numbers l.left configuration l.yielded (machine_of l.client.driver.driver.machine) (g.W.Write.sink l.initial.writer) (g.W.Write.sink l.writer) l.end;
+  answered : (configuration : Configuration) → machine_of l.initial.client.driver.driver.machine ≡ opening configuration → HasAnswered l.shows l.left configuration l.yielded (machine_of l.client.driver.driver.machine) (g.W.Write.sink l.initial.writer) (g.W.Write.sink l.writer) l.end;
 }

@@ -1,8 +1,15 @@
 use Rattle.std.proofs.lemmas.Result.{err_from_is_err_and}
 use Rattle.device.specs.Machine.{machine_of}
+use Rattle.explaining.proofs.Faulting.{faults, leads_there}
 use Rattle.explaining.proofs.Walking.{unexplained}
 use Rattle.explaining.proofs.Writing.{tells_faulted}
 use Rattle.explaining.proofs.ends.fault_text.Goals as goal
+
+pub explain_case-requires-clause-known : goal.explain_case-requires-clause-known
+explain_case-requires-clause-known c is =
+    let r = c.requires.replied in
+    leads_there (machine_of c.args.device.now) c.args.performed.now.commands.now c.args.case.ticket r.command c.args.case.fault c.args.case.schedule r.at
+    (faults r.before (machine_of c.args.device.now) r.command c.args.case.fault c.args.case.schedule r.replied)
 
 pub returns-clause-tells : goal.returns-clause-tells
 returns-clause-tells c =

@@ -12,3 +12,8 @@ short_schedule-requires-clause-leads c =
 pub returns : goal.returns
 returns c =
     (c.in_ok-schedule.ensures, (subst (IsFound (launch_of (setup_of c.args.launch.now) (bytes_in c.args.buffers.now))) c.in-Some.is c.requires.found).1)
+
+pub returns-then-is_budget : goal.returns-then-is_budget
+returns-then-is_budget c =
+    let l = launch_of (setup_of c.args.launch.now) (bytes_in c.args.buffers.now) in
+    c.whole.ensures l (subst (IsFound l) c.in-Some.is c.requires.found)

@@ -1,8 +1,0 @@
-use Rattle.std.proofs.Common.{[], ◌∷◌, codes}
-use Rattle.cli.specs.CommandLine.{script, some_schedule}
-use Rattle.cli.proofs.command_line.explained.Goals as goal
-
-pub returns : goal.returns
-returns c =
-    let with_schedule = c.with.ensures (codes "explain") (script ∷ []) some_schedule c.form_on-form.ensures c.some_schedule.ensures in
-    c.formatted.ensures (codes "explain") (script ∷ some_schedule ∷ []) with_schedule

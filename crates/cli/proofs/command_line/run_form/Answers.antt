@@ -1,6 +1,0 @@
-use Rattle.std.proofs.Common.{[], ◌∷◌, codes}
-use Rattle.cli.specs.CommandLine.{file, lines, working}
-use Rattle.cli.proofs.command_line.run_form.Goals as goal
-
-pub returns : goal.returns
-returns c = c.with.ensures (codes "run") (file ∷ working) lines (c.working.ensures (codes "run") (file ∷ []) c.form_on-form.ensures) c.flag-lines.ensures

@@ -1,7 +1,0 @@
-use Rattle.cli.proofs.CommandLines.{has_argument, of_made}
-use Rattle.cli.specs.CommandLine.{IsForm}
-use Rattle.cli.proofs.command_line.with.Goals as goal
-
-pub returns : goal.returns
-returns c name arguments rule made fits =
-    has_argument name arguments rule c.in_ok-form.form c.args.arg c.arg.result (of_made (IsForm name arguments) c.args.form c.in_ok-form.form c.in_ok-form.was made) fits c.arg.ensures

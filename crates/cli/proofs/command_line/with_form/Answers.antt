@@ -1,8 +1,0 @@
-use Rattle.cli.specs.CommandLine.{AreForms, IsForm}
-use Rattle.cli.proofs.CommandLines.{has_form, of_made}
-use Rattle.cli.proofs.command_line.with_form.Goals as goal
-
-pub returns : goal.returns
-returns c so_far name arguments are is =
-    has_form so_far name arguments c.in_ok-forms.forms c.in_ok-form.form c.subcommand.result (of_made (AreForms so_far) c.args.forms c.in_ok-forms.forms c.in_ok-forms.was are)
-    (of_made (IsForm name arguments) c.args.form c.in_ok-form.form c.in_ok-form.was is) c.subcommand.ensures

@@ -1,8 +1,0 @@
-use Rattle.std.proofs.Common.{[], ◌∷◌}
-use Rattle.cli.specs.CommandLine.{configured, workers}
-use Rattle.cli.proofs.CommandLines.{has_both}
-use Rattle.cli.proofs.command_line.working.Goals as goal
-
-pub returns : goal.returns
-returns c name arguments made =
-    has_both name arguments (workers ∷ []) configured c.configured.result (c.configured.ensures name _ (c.with.ensures name arguments workers made c.number-workers.ensures))

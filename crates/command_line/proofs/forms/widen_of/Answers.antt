@@ -1,0 +1,29 @@
+use Rattle.std.proofs.Common.{refl, rules, ◌≡◌, ◌∙◌, ap, sym, codes, option_map, None, Some}
+use Rattle.clap.specs.Words.{found_of, first_of, rows_of}
+use Rattle.clap.proofs.WalkLemmas.{first_value-rows}
+use Rattle.command_line.proofs.CommandLines.{not_there, widen_parts}
+use Rattle.command_line.proofs.forms.widen_of.Goals as goal
+
+pub returns : goal.returns
+returns c =
+    let found : c.get_str.result ≡ Some c.in_ok-script.script = search rules in (
+      refl,
+      (
+        sym (first_value-rows (found_of c.args.widen.now) (codes "SCRIPT")) ∙ (sym c.get_str.ensures ∙ ap (option_map (λ s. s.now)) found),
+        c.in_ok-json.ensures,
+        c.in_ok-limits.ensures,
+      ),
+    )
+
+pub returns-in_err-script : goal.returns-in_err-script
+returns-in_err-script c =
+    let missing : c.get_str.result ≡ None = search rules in
+    let none : first_of (codes "SCRIPT") (rows_of (found_of c.args.widen.now)) ≡ None =
+    sym (first_value-rows (found_of c.args.widen.now) (codes "SCRIPT")) ∙ (sym c.get_str.ensures ∙ ap (option_map (λ s. s.now)) missing) in
+    rw c.from_residual.ensures (λ asked is. let parts = widen_parts (rows_of (found_of c.args.widen.now)) asked is in not_there (first_of (codes "SCRIPT") (rows_of (found_of c.args.widen.now))) parts.0 none parts.3)
+
+pub returns-in_err-json : goal.returns-in_err-json
+returns-in_err-json c = rw c.from_residual-in_err-json.ensures (λ asked is. let parts = widen_parts (rows_of (found_of c.args.widen.now)) asked is in c.in_err-json.ensures parts.1 parts.4)
+
+pub returns-in_err-limits : goal.returns-in_err-limits
+returns-in_err-limits c = rw c.from_residual-in_err-limits.ensures (λ asked is. let parts = widen_parts (rows_of (found_of c.args.widen.now)) asked is in c.in_err-limits.ensures parts.2 parts.5)

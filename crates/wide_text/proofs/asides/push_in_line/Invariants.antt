@@ -1,6 +1,0 @@
-use Rattle.std.proofs.Common.{◌≡◌, ◌++◌, ℕ, List}
-use Rattle.wide_text.specs.Told.{IsOneLine}
-use Rattle.wide_text.proofs.asides.push_in_line.Given as goal
-
-abbrev pub invariant-loop-byte : goal.invariant-loop-byte
-invariant-loop-byte l = (line : List ℕ) × IsOneLine line × (l.out.items ≡ l.fn.out.items ++ line)

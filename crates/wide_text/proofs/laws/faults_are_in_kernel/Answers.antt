@@ -1,5 +1,0 @@
-use Rattle.wide_text.proofs.InKernel.{faults_are_in_kernel}
-use Rattle.wide_text.proofs.laws.faults_are_in_kernel.Goals as goal
-
-pub returns : goal.returns
-returns c = faults_are_in_kernel c.launches_once.ensures
