@@ -66,7 +66,7 @@ uint float_to_uint(uint a) {
 
 /* 1 / sqrt(a). A positive number is m * 4^k, m from 1 to 4. r is 1 / sqrt(m) as a fraction of 2^16: first by a polynomial
    in 2 less the significand, which errs by less than 1 in 256, then by Newton's rule, r * (3 - m * r^2) / 2. With
-   d = 1 - m * r^2, below 1 in 8,192, the result is r + r * d / 2 as a fraction of 2^31, and what follows in the series
+   d = 1 - m * r^2, from -2^-13 to 2^-12, the result is r + r * d / 2 as a fraction of 2^31; what follows in the series
    is below the 7 bits that are cut off. */
 uint float_rsqrt(uint a) {
     if (a >= 0x7f800000u) {
