@@ -279,7 +279,7 @@ class Runner:
         os.close(answers)
         program.others.append(self.number)
         try:
-            self.own = peak_of(self.number) + SLACK
+            self.own = peak_of(self.number) + SLACK // 2
         except (OSError, ValueError):
             # (it has ended)
             self.own = 0
@@ -290,7 +290,6 @@ class Runner:
             self.program.meanwhile()
             more = os.read(self.answers, READ)
             if not more:
-                self.program.begins = {output: os.lseek(output, 0, os.SEEK_CUR) for output in (1, 2)}
                 return None
             self.left += more
         line, _, self.left = self.left.partition(b"\n")
@@ -303,10 +302,12 @@ class Runner:
         try:
             os.write(self.asking, b"".join([b"%d:%d " % (at, size) for _, at, size in places]) + b"\n")
         except BrokenPipeError:
-            return
+            # (its end is read)
+            pass
         for _ in places:
             line = self.line()
             if line is None:
+                program.begins = {output: os.lseek(output, 0, os.SEEK_CUR) for output in program.begins}
                 return
             if line[0] == b"error":
                 raise OSError(int(line[1]), os.strerror(int(line[1])), program.judging[0])

@@ -10,20 +10,16 @@ WORDS = ["-std=gnu11", "-O2", "-Wall", "-Wextra", "-Werror", "-s"]
 
 
 def build(path):
-    """Builds the program, whole or not at all, and without a C library of this machine where that can be: whether it is
-    there then."""
+    """Builds the program, whole or not at all: whether it is there then."""
     new, compiler = f"{path}.{os.getpid()}.new", os.environ.get("CC", "cc")
-    os.makedirs(os.path.dirname(path) or ".", exist_ok=True)
     try:
-        for linked in (["-static"], []):
-            words = [compiler, *WORDS, *linked, "-o", new, SOURCE]
-            if subprocess.run(words, stderr=subprocess.DEVNULL, check=False).returncode == 0:
-                os.replace(new, path)
-                return True
-    except OSError:
-        # (there is no compiler)
-        pass
-    return False
+        os.makedirs(os.path.dirname(path) or ".", exist_ok=True)
+        subprocess.run([compiler, *WORDS, "-o", new, SOURCE], stderr=subprocess.DEVNULL, check=True)
+        os.replace(new, path)
+        return True
+    except (OSError, subprocess.CalledProcessError):
+        # (there is no compiler, or none that can)
+        return False
 
 
 if __name__ == "__main__":

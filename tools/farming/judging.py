@@ -100,10 +100,7 @@ def runner_here():
         # (it isn't built yet)
         pass
     from building import build  # pylint: disable=import-outside-toplevel
-    try:
-        return built if build(built) else None
-    except OSError:
-        return None
+    return built if build(built) else None
 
 
 def copy_whole(path, to):
