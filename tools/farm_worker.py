@@ -35,7 +35,7 @@ READ, MOST_KEPT, LONG = 1 << 12, 1 << 20, 1 << 16
 # How far the system's two counts of a worker's memory may be apart, in KB.
 SLACK = 1024
 # The program that runs scripts for a worker, and the numbers of its open files.
-RUNNER, GROUPS, ANSWERS, TEXTS, SCRIPT = "./bin/farm_run", 20, 21, 22, 23
+RUNNER, GROUPS, ANSWERS, TEXTS, SCRIPT = "./bin/farm_run", 100, 101, 102, 103
 # This machine, as names of files and texts of JSON have it.
 HOST = "".join(it if it.isalnum() or it in "-." else "_" for it in os.uname().nodename)
 
@@ -278,6 +278,8 @@ class Runner:
         os.close(groups)
         os.close(answers)
         program.others.append(self.number)
+        if program.is_over:
+            program.stop()
         try:
             self.own = peak_of(self.number) + SLACK // 2
         except (OSError, ValueError):
@@ -498,8 +500,9 @@ def judge_by(runner, results, file, places):
         else:
             others.append((key, at, size, ran, said, told))
     for key, at, size, ran, said, told in others:
-        program.take(text_at(file, at, size))
-        line = looked_at(program, key, ran, said, told)
+        if not program.is_over:
+            program.take(text_at(file, at, size))
+            line = looked_at(program, key, ran, said, told)
         if program.is_over:
             break
         results.add(line)

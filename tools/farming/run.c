@@ -29,7 +29,7 @@
 #include <time.h>
 #include <unistd.h>
 
-enum { GROUPS = 20, ANSWERS, TEXTS, SCRIPT, LONGEST = 4096 };
+enum { GROUPS = 100, ANSWERS, TEXTS, SCRIPT, LONGEST = 4096 };
 
 static const long long SECOND = 1000000000;
 // How long an answer waits for others that are written with it, and how often it is looked at a run, in nanoseconds.
