@@ -27,7 +27,7 @@ PASSED, ORDERED, FAULTY = "clean", "ordered", "fault"
 # How often it is looked how a program does, and how long one has run when its memory is looked at first.
 LOOK, FIRST_LOOK = 0.05, 0.02
 # The bytes of a line of a queue, which has the words of up to so many scripts, and the number of the pipe that is held.
-WIDE_LINE, GROUP, HELD = 448, 8, 3
+WIDE_LINE, GROUP, HELD = 896, 16, 3
 # How long results wait for others that are written with them; where a script takes longer, they don't wait for it.
 WAIT = 0.02
 # How many bytes of the outputs are read at a time and are kept, and from how many on a text adds to a worker's memory.
