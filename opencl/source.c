@@ -135,9 +135,10 @@ const char *shown_as(const kernel_form *k, const char *name, size_t length) {
     return name;
 }
 
+// (a byte of bit-fields is none's own)
 static const field *field_at(const record *r, uint64_t offset) {
     for (unsigned i = 0; i < r->field_count; i++)
-        if (r->fields[i].offset <= offset && offset - r->fields[i].offset < r->fields[i].type->size)
+        if (!r->fields[i].is_bit_field && r->fields[i].offset <= offset && offset - r->fields[i].offset < r->fields[i].type->size)
             return &r->fields[i];
     return NULL;
 }

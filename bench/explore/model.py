@@ -28,7 +28,7 @@ LONGEST, TURNS = 64, 1 << 20
 DRAWN = 1 << 63
 # After so many atomic operations for each item that can go on, without a stop, none seems to come to one.
 PATIENCE = 4096
-# The ticks of an item: its accesses, barriers and turns of loops.
+# The ticks of an item where none are asked for: its accesses, barriers and turns of loops.
 BUDGET = 100_000
 
 
@@ -360,9 +360,9 @@ class Until(Chooser):
 class Order:
     """One order of a launch's events: the buffers that it leaves, its events, and the fault that it shows, if one."""
 
-    def __init__(self, kernel, buffers, items, size, chooser):
+    def __init__(self, kernel, buffers, items, size, budget, chooser):
         self.buffers = {name: list(numbers) for name, numbers in buffers.items()}
-        self.size, self.chooser = size, chooser
+        self.size, self.budget, self.chooser = size, budget, chooser
         self.items = [kernel(item) for item in range(items)]
         self.actions, self.ticks = [("end",)] * items, [0] * items
         for item in range(items):
@@ -451,7 +451,7 @@ class Order:
                 action = ("end",)
             answer = None
             self.ticks[item] += action[0] not in ("end", "fault")
-            if self.ticks[item] > BUDGET:
+            if self.ticks[item] > self.budget:
                 action = ("fault", "8 budget")
         self.actions[item] = action
 
@@ -475,9 +475,9 @@ def path_of(name):
 
 
 class Launch:
-    """The launch with `orders` of a script: its kernel, its buffers, its sizes, its ticket."""
+    """The launch with `orders` of a script: its kernel, its buffers, its sizes, its ticket, and the ticks of an item."""
 
-    def __init__(self, name):
+    def __init__(self, name, budget=BUDGET):
         spec = importlib.util.spec_from_file_location("check", os.path.join(GALLERY, "check.py"))
         check = importlib.util.module_from_spec(spec)
         spec.loader.exec_module(check)
@@ -487,12 +487,12 @@ class Launch:
         kernel = script.commands[self.ticket][1]
         self.names = [words[4] for words in script.commands[: self.ticket] if words[:2] == ["arg", kernel]]
         self.buffers = {it: script.ints(it) for it in self.names}
-        self.kernel = globals()[name]
+        self.kernel, self.budget = globals()[name], budget
 
     def order(self, seed, number, atomics, until, rest):
         """An order by its number, from 0 on: so many atomic operations by its chooser, the rest by another one."""
         chooser = Until(self.chooser(seed, number, atomics), until, rest)
-        return Order(self.kernel, self.buffers, self.items, self.size, chooser)
+        return Order(self.kernel, self.buffers, self.items, self.size, self.budget, chooser)
 
     def probed(self, seed, number, atomics, until):
         """The same where it comes to no end so: with one item alone, up to its budget. None where it doesn't."""

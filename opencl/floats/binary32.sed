@@ -14,6 +14,9 @@ s/SMALL_BITS/0x20000000u/g
 s/LARGE_BITS/0x5f800000u/g
 s/REST_MASK/0xffu/g
 s/REST_HALF/0x80u/g
+s/ROUNDED_TO_NEXT/0xffffff80u/g
+s/ALL_ONES/0xffffffffu/g
+s/EVEN_MASK/0xfffffffeu/g
 s/CARRY_MASK/0x1ffu/g
 s/CARRY_HALF/0x100u/g
 s/TOP_SHIFT/8/g

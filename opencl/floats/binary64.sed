@@ -1,4 +1,6 @@
 # binary64 (IEEE 754-2008, table 3.5) in words of 64 bits
+# The sum in one word is that of what is rare; the usual one is that of two_words.cl.
+s/^WORD FORMAT_add(/WORD FORMAT_add_rare(/
 s/FORMAT_/double_/g
 s/SIGNED_WORD/long/g
 s/WORD/ulong/g
@@ -9,11 +11,11 @@ s/FRACTION_MASK/0x000ffffffffffffful/g
 s/GUARD_BITS/10/g
 s/GUARD_MASK/0x3fful/g
 s/GUARD_HALF/0x200ul/g
-s/UPPER_PRODUCT/double_product_upper/g
-s/SMALL_BITS/0x2000000000000000ul/g
-s/LARGE_BITS/0x5ff0000000000000ul/g
 s/REST_MASK/0x7fful/g
 s/REST_HALF/0x400ul/g
+s/ROUNDED_TO_NEXT/0xfffffffffffffc00ul/g
+s/ALL_ONES/0xfffffffffffffffful/g
+s/EVEN_MASK/0xfffffffffffffffeul/g
 s/CARRY_MASK/0xffful/g
 s/CARRY_HALF/0x800ul/g
 s/TOP_SHIFT/11/g

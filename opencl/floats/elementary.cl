@@ -37,6 +37,7 @@ WORD FORMAT_two_to(WORD sign, int k, WORD f) {
 int FORMAT_whole_of(WORD upper, int n) {
     return n > 0 ? (int)(upper >> (WIDTH - n)) : 0;
 }
+/* What is behind the point. */
 WORD FORMAT_part_of(WORD upper, WORD lower, int n) {
     if (n > 0) return upper << n | lower >> (WIDTH - n);
     upper = FORMAT_down(upper, -n);
@@ -60,6 +61,7 @@ WORD FORMAT_lower_of_product(WORD m, WORD upper, WORD lower) {
     WORD more = FORMAT_product_upper(m, lower);
     return m * upper + more;
 }
+/* The upper word of the same product. */
 WORD FORMAT_upper_of_product(WORD m, WORD upper, WORD lower) {
     WORD more = FORMAT_product_upper(m, lower);
     WORD product = FORMAT_product_upper(m, upper);
@@ -204,6 +206,7 @@ WORD FORMAT_log_value(int e, WORD m, WORD log_2, int log_scale, WORD factor) {
     return (m >= SQRT_2) == (k < 0) ? multiple + rest : multiple - rest;
 }
 
+/* The scale of that logarithm: a fraction of 2^WIDTH times 2 to its power. */
 int FORMAT_log_scale(int e, WORD m, int log_scale) {
     int k = FORMAT_log_multiple(e, m);
     int exponent = FORMAT_log_exponent(m);
@@ -392,6 +395,7 @@ ulong FORMAT_bits_of_two_over_pi(int place) {
     return first << up | second >> (64 - up);
 }
 
+/* The same as a word. */
 WORD FORMAT_word_of_two_over_pi(int place) {
     ulong bits = FORMAT_bits_of_two_over_pi(place);
     return (WORD)(bits >> (64 - WIDTH));
@@ -422,16 +426,19 @@ WORD FORMAT_circular_of(int kind, WORD a) {
     return x;
 }
 
+/* sin(a) */
 WORD FORMAT_sin(WORD a) {
     a = FORMAT_circular_of(0, a);
     return a;
 }
 
+/* cos(a) */
 WORD FORMAT_cos(WORD a) {
     a = FORMAT_circular_of(1, a);
     return a;
 }
 
+/* tan(a) */
 WORD FORMAT_tan(WORD a) {
     a = FORMAT_circular_of(2, a);
     return a;
@@ -471,16 +478,19 @@ WORD FORMAT_circular_of_pi(int kind, WORD a) {
     return x;
 }
 
+/* sin(pi * a) */
 WORD FORMAT_sinpi(WORD a) {
     a = FORMAT_circular_of_pi(0, a);
     return a;
 }
 
+/* cos(pi * a) */
 WORD FORMAT_cospi(WORD a) {
     a = FORMAT_circular_of_pi(1, a);
     return a;
 }
 
+/* tan(pi * a) */
 WORD FORMAT_tanpi(WORD a) {
     a = FORMAT_circular_of_pi(2, a);
     return a;
@@ -583,21 +593,25 @@ WORD FORMAT_atan2_per(WORD y, WORD x, int per_pi) {
     return y;
 }
 
+/* The angle of the point with these coordinates */
 WORD FORMAT_atan2(WORD y, WORD x) {
     y = FORMAT_atan2_per(y, x, 0);
     return y;
 }
 
+/* The same divided by pi */
 WORD FORMAT_atan2pi(WORD y, WORD x) {
     y = FORMAT_atan2_per(y, x, 1);
     return y;
 }
 
+/* atan(a) */
 WORD FORMAT_atan(WORD a) {
     a = FORMAT_atan2_per(a, ONE_BITS, 0);
     return a;
 }
 
+/* atan(a) / pi */
 WORD FORMAT_atanpi(WORD a) {
     a = FORMAT_atan2_per(a, ONE_BITS, 1);
     return a;
@@ -649,47 +663,31 @@ WORD FORMAT_arc(int complement, WORD a, int per_pi) {
     return x;
 }
 
+/* asin(a) */
 WORD FORMAT_asin(WORD a) {
     a = FORMAT_arc(0, a, 0);
     return a;
 }
 
+/* acos(a) */
 WORD FORMAT_acos(WORD a) {
     a = FORMAT_arc(1, a, 0);
     return a;
 }
 
+/* asin(a) / pi */
 WORD FORMAT_asinpi(WORD a) {
     a = FORMAT_arc(0, a, 1);
     return a;
 }
 
+/* acos(a) / pi */
 WORD FORMAT_acospi(WORD a) {
     a = FORMAT_arc(1, a, 1);
     return a;
 }
 
 /* ---- roots and lengths ---- */
-
-/* 1 / sqrt(a) */
-WORD FORMAT_rsqrt(WORD a) {
-    WORD x = a & MAGNITUDE_MASK;
-    if (x > INFINITY_BITS) return NAN_BITS;
-    if (x == 0) return a | INFINITY_BITS;
-    if (a >= SIGN_BIT) return NAN_BITS;
-    if (x == INFINITY_BITS) return 0;
-    int e = FORMAT_exponent_of(x);
-    e -= BIAS;
-    x = FORMAT_significand_of(x);
-    x = FORMAT_root(x, e & 1);
-    if (x == SECOND_BIT) {
-        x = FORMAT_round(0, BIAS - (e >> 1), SECOND_BIT);
-        return x;
-    }
-    x = FORMAT_ratio(TOP_BIT, x << 1);
-    x = FORMAT_rounded(0, -(e >> 1), x);
-    return x;
-}
 
 /* sqrt(a^2 + b^2) */
 WORD FORMAT_hypot(WORD a, WORD b) {

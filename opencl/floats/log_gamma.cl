@@ -1,26 +1,26 @@
 /* ---- the logarithm of the gamma function (C99 7.12.8.3) ---- */
 
 /* log(gamma(y)) for y from 16 on, by Stirling's series: (y - 1/2) * (log(y) - 1) + log(2 * pi) / 2 - 1/2 + 1 / (12 * y)
-   - 1 / (360 * y^3) + 1 / (1260 * y^5) - 1 / (1680 * y^7) + 1 / (1188 * y^9). */
+   - 1 / (360 * y^3) + 1 / (1260 * y^5) - 1 / (1680 * y^7) + 1 / (1188 * y^9). Its sums are those of fewer nodes. */
 ulong double_stirling(ulong y) {
     ulong part = double_div(0x3ff0000000000000ul, y);
     ulong z = double_mul(part, part);
     ulong sum = 0x3f4b951e2b18ff23ul;
     sum = double_mul(sum, z);
-    sum = double_sub(sum, 0x3f43813813813814ul);
+    sum = double_add_rare(sum, 0xbf43813813813814ul);
     sum = double_mul(sum, z);
-    sum = double_add(sum, 0x3f4a01a01a01a01aul);
+    sum = double_add_rare(sum, 0x3f4a01a01a01a01aul);
     sum = double_mul(sum, z);
-    sum = double_sub(sum, 0x3f66c16c16c16c17ul);
+    sum = double_add_rare(sum, 0xbf66c16c16c16c17ul);
     sum = double_mul(sum, z);
-    sum = double_add(sum, 0x3fb5555555555555ul);
+    sum = double_add_rare(sum, 0x3fb5555555555555ul);
     sum = double_mul(sum, part);
-    sum = double_add(sum, 0x3fdacfe390c97d69ul);
+    sum = double_add_rare(sum, 0x3fdacfe390c97d69ul);
     part = double_log(y);
-    part = double_sub(part, 0x3ff0000000000000ul);
-    y = double_sub(y, 0x3fe0000000000000ul);
+    part = double_add_rare(part, 0xbff0000000000000ul);
+    y = double_add_rare(y, 0xbfe0000000000000ul);
     y = double_mul(y, part);
-    y = double_add(y, sum);
+    y = double_add_rare(y, sum);
     return y;
 }
 
@@ -47,6 +47,7 @@ ulong double_lgamma(ulong a) {
     return value;
 }
 
+/* log(|gamma(a)|), by that of doubles */
 uint float_lgamma(uint a) {
     ulong value = double_from_float(a);
     value = double_lgamma(value);

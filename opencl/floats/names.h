@@ -6,14 +6,14 @@
    `name` is an operator or a function of OpenCL 1.2, 6.3 and 6.12. The helper's name is float_ or double_ and `helper`.
    Numbers of a format are given as their bits, a float as uint, a double as ulong. A result is FORMAT: such bits,
    TRUTH: an int that is 0 or 1, NOT: the same the other way round, or INT. In `arguments` a letter stands for each
-   argument of the helper: a, b and c for the bits of the operation's operands, i for its second operand as an int, a
-   digit for that number. STORING is a function that stores a second result through its last operand, a pointer; its
-   first result is FORMAT. The row of helpers.h of each helper has the types of its parameters, and which helpers it
-   calls. */
+   argument of the helper: a, b and c for the bits of the operation's operands, B for those of b with the other sign,
+   i for its second operand as an int, a digit for that number. STORING is a function that stores a second result
+   through its last operand, a pointer; its first result is FORMAT. The row of helpers.h of each helper has the types
+   of its parameters, and which helpers it calls. */
 
 /* operators */
 OPERATION("+", add, FORMAT, "ab")
-OPERATION("-", sub, FORMAT, "ab")
+OPERATION("-", add, FORMAT, "aB")
 OPERATION("*", mul, FORMAT, "ab")
 OPERATION("/", div, FORMAT, "ab")
 OPERATION("unary -", negate, FORMAT, "a")
@@ -154,6 +154,8 @@ OPERATION("native_tan", tan, FORMAT, "a")
 /* Conversions aren't rows. A mode is 0 for _rte, 1 for _rtz, 2 for _rtp, 3 for _rtn; without a suffix 1 to a whole
    number and 0 to a float or double. `largest` is the largest number of the type.
 
+     to int, uint              T_to_int(a), T_to_uint(a), where the mode is 1
+     from int, uint            T_from_int(a), T_from_uint(a), where the mode is 0; of the narrower types too
      to a signed type          T_to_signed(mode, a, largest), a long in the range of the type
      to an unsigned type       T_to_unsigned(mode, a, largest), a ulong in the range of the type
      from a signed type        T_from_long(mode, a)

@@ -1,167 +1,9 @@
-/* ---- addition (5.4.1) ---- */
-
-/* a + b of which y is the smaller magnitude, where a isn't finite, or both are 0 or subnormal: their sum has the bits
-   of a whole number's. `signs` has the sign bit where the signs differ. */
-WORD FORMAT_add_special(WORD a, WORD y, WORD signs) {
-    WORD x = a & MAGNITUDE_MASK;
-    if (x > INFINITY_BITS) return NAN_BITS;
-    if (x == INFINITY_BITS) return y == INFINITY_BITS && signs >= SIGN_BIT ? NAN_BITS : a;
-    if (signs < SIGN_BIT) return a + y;
-    if (x == y) return 0;
-    return a - y;
-}
-
-/* a + b. The exact sum 0 is +0, but for two zeros of one sign (6.3). Here a has the larger magnitude, and b the sign
-   bit where the signs differ. The significands x and y have the leading one at bit WIDTH - 1; y is moved to its place
-   below x, its lowest bit sticky. (A variable that is declared costs a step: each has several uses.) */
-WORD FORMAT_add(WORD a, WORD b) {
-    WORD x = a & MAGNITUDE_MASK;
-    WORD y = b & MAGNITUDE_MASK;
-    b ^= a;
-    if (x < y) {
-        a ^= b;
-        y = x;
-        x = a & MAGNITUDE_MASK;
-    }
-    if (x >= INFINITY_BITS) {
-        a = FORMAT_add_special(a, y, b);
-        return a;
-    }
-    if (y < SMALLEST_NORMAL) {
-        if (x < SMALLEST_NORMAL) {
-            a = FORMAT_add_special(a, y, b);
-            return a;
-        }
-        if (y == 0) return a;
-        WORD up = clz(y) - TOP_SHIFT;
-        y <<= up;
-        x >>= FRACTION_BITS;
-        x += up - 1;
-    } else {
-        x = (x >> FRACTION_BITS) - (y >> FRACTION_BITS);
-    }
-    y <<= TOP_SHIFT;
-    y |= TOP_BIT;
-    if (x <= TOP_SHIFT) y >>= x;
-    else y = FORMAT_shift_right(y, (int)x);
-    x = a << TOP_SHIFT;
-    x |= TOP_BIT;
-    if (b < SIGN_BIT) {
-        x += y;
-        if (x >= y) {
-            a += y >> TOP_SHIFT;
-            y &= REST_MASK;
-            if (y >= REST_HALF) {
-                if (y == REST_HALF) a += a & UNIT;
-                else a += UNIT;
-            }
-            return a;
-        }
-        /* The sum is 2^WIDTH + x: the next exponent, which may be that of infinity. */
-        a &= EXPONENT_AND_SIGN;
-        a += SMALLEST_NORMAL;
-        a += x >> (TOP_SHIFT + 1);
-        x &= CARRY_MASK;
-        if (x >= CARRY_HALF) {
-            if (x == CARRY_HALF) a += a & UNIT;
-            else a += UNIT;
-        }
-        y = a & MAGNITUDE_MASK;
-        if (y >= INFINITY_BITS) a &= EXPONENT_AND_SIGN;
-        return a;
-    }
-    /* The leading one moves up, at most to the exponent 1: below that the difference is subnormal, and exact. */
-    x -= y;
-    if (x < TOP_BIT) {
-        if (x == 0) return 0;
-        y = a & MAGNITUDE_MASK;
-        y >>= FRACTION_BITS;
-        y -= 1;
-        y = min(clz(x), y);
-        x <<= y;
-        a -= y << FRACTION_BITS;
-    }
-    a &= EXPONENT_AND_SIGN;
-    a -= SMALLEST_NORMAL;
-    a += x >> TOP_SHIFT;
-    x &= REST_MASK;
-    if (x >= REST_HALF) {
-        if (x == REST_HALF) a += a & UNIT;
-        else a += UNIT;
-    }
-    return a;
-}
+/* ---- subtraction, division, square root (5.4.1) ---- */
 
 /* a - b */
 WORD FORMAT_sub(WORD a, WORD b) {
     WORD result = FORMAT_add(a, b ^ SIGN_BIT);
     return result;
-}
-
-/* ---- multiplication, division, square root (5.4.1) ---- */
-
-/* a * b where one of the magnitudes x and y is 0, infinite or not a number. */
-WORD FORMAT_mul_special(WORD sign, WORD x, WORD y) {
-    if (x > INFINITY_BITS || y > INFINITY_BITS) return NAN_BITS;
-    if (x != INFINITY_BITS && y != INFINITY_BITS) return sign;
-    if (x == 0 || y == 0) return NAN_BITS;
-    return sign | INFINITY_BITS;
-}
-
-/* a * b, whatever they are. */
-WORD FORMAT_mul_rare(WORD a, WORD b) {
-    WORD sign = (a ^ b) & SIGN_BIT;
-    a &= MAGNITUDE_MASK;
-    b &= MAGNITUDE_MASK;
-    if (a != 0) if (b != 0) if (a < INFINITY_BITS) if (b < INFINITY_BITS) {
-        int exponent = FORMAT_exponent_of(a);
-        int other = FORMAT_exponent_of(b);
-        a = FORMAT_significand_of(a);
-        b = FORMAT_significand_of(b);
-        a = FORMAT_product(a, b);
-        if (a < TOP_BIT) a <<= 1;
-        else exponent += 1;
-        a = FORMAT_shift_right(a, 1);
-        a = FORMAT_round(sign, exponent + other - BIAS, a);
-        return a;
-    }
-    a = FORMAT_mul_special(sign, a, b);
-    return a;
-}
-
-/* a * b. Where both exponents are far from their ends, that of the product is none of them. `upper` has the sum of the
-   exponents with that of the signs, whose carry leaves the word. Both significands have their leading one at bit
-   WIDTH - 1; the upper word x of their product has it there, or at the next one, and is doubled then: its lowest bit is
-   one of the lower word a * b. */
-WORD FORMAT_mul(WORD a, WORD b) {
-    WORD upper = a & MAGNITUDE_MASK;
-    if (upper >= SMALL_BITS) if (upper < LARGE_BITS) {
-        upper = b & MAGNITUDE_MASK;
-        if (upper >= SMALL_BITS) if (upper < LARGE_BITS) {
-            upper = (a >> FRACTION_BITS) + (b >> FRACTION_BITS);
-            a <<= TOP_SHIFT;
-            a |= TOP_BIT;
-            b <<= TOP_SHIFT;
-            b |= TOP_BIT;
-            WORD x = UPPER_PRODUCT(a, b);
-            if (x < TOP_BIT) {
-                x <<= 1;
-                upper -= 1;
-            }
-            upper -= BIAS;
-            upper <<= FRACTION_BITS;
-            upper += x >> TOP_SHIFT;
-            x &= REST_MASK;
-            if (x >= REST_HALF) {
-                if (x > REST_HALF) upper += UNIT;
-                else if (a * b != 0) upper += UNIT;
-                else upper += upper & UNIT;
-            }
-            return upper;
-        }
-    }
-    a = FORMAT_mul_rare(a, b);
-    return a;
 }
 
 /* a / b where one of the magnitudes x and y is 0, infinite or not a number. A finite number by 0 is infinite (7.3). */
@@ -259,6 +101,7 @@ WORD FORMAT_fma(WORD a, WORD b, WORD c) {
 
 /* ---- comparisons (5.11); a NaN is unordered ---- */
 
+/* 1 if a is not a number */
 int FORMAT_isnan(WORD a) {
     return (a & MAGNITUDE_MASK) > INFINITY_BITS;
 }
@@ -312,12 +155,14 @@ WORD FORMAT_from_magnitude(int mode, WORD sign, ulong magnitude) {
     return significand;
 }
 
+/* A whole number, rounded. */
 WORD FORMAT_from_long(int mode, long a) {
     ulong magnitude = a < 0 ? 0 - (ulong)a : (ulong)a;
     WORD result = FORMAT_from_magnitude(mode, a < 0 ? SIGN_BIT : 0, magnitude);
     return result;
 }
 
+/* The same of one without a sign. */
 WORD FORMAT_from_ulong(int mode, ulong a) {
     WORD result = FORMAT_from_magnitude(mode, 0, a);
     return result;
@@ -386,6 +231,7 @@ ulong FORMAT_digits_of(WORD x) {
     return (ulong)((x & FRACTION_MASK) | SMALLEST_NORMAL);
 }
 
+/* The power of 2 that such digits are multiplied by. */
 int FORMAT_scale_of(WORD x) {
     if (x < SMALLEST_NORMAL) return 0;
     return (int)(x >> FRACTION_BITS) - 1;
@@ -653,23 +499,28 @@ WORD FORMAT_fract(WORD a) {
 
 /* ---- classes (IEEE 754-2008, 5.7.2) ---- */
 
+/* 1 if a is an infinity */
 int FORMAT_isinf(WORD a) {
     return (a & MAGNITUDE_MASK) == INFINITY_BITS;
 }
 
+/* 1 if a is neither an infinity nor a NaN */
 int FORMAT_isfinite(WORD a) {
     return (a & MAGNITUDE_MASK) < INFINITY_BITS;
 }
 
+/* 1 if a is neither 0, subnormal, infinite nor a NaN */
 int FORMAT_isnormal(WORD a) {
     WORD x = a & MAGNITUDE_MASK;
     return x >= SMALLEST_NORMAL && x < INFINITY_BITS;
 }
 
+/* 1 if one of them is a NaN */
 int FORMAT_isunordered(WORD a, WORD b) {
     return (a & MAGNITUDE_MASK) > INFINITY_BITS || (b & MAGNITUDE_MASK) > INFINITY_BITS;
 }
 
+/* 1 if the sign is minus, also of a zero or a NaN */
 int FORMAT_signbit(WORD a) {
     return a >= SIGN_BIT;
 }

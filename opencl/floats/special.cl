@@ -28,6 +28,7 @@ WORD FORMAT_lower_of_square(WORD m) {
     square = FORMAT_product_upper(m * m, LOG2_E_UPPER);
     return lower + square;
 }
+/* The upper word of that. */
 WORD FORMAT_upper_of_square(WORD m) {
     WORD square = FORMAT_product_upper(m, m);
     WORD upper = FORMAT_upper_of_product(square, LOG2_E_UPPER, LOG2_E_LOWER);
@@ -87,11 +88,13 @@ WORD FORMAT_error_function(int complement, WORD a) {
     return x;
 }
 
+/* erf(a) */
 WORD FORMAT_erf(WORD a) {
     a = FORMAT_error_function(0, a);
     return a;
 }
 
+/* erfc(a), which is 1 - erf(a) */
 WORD FORMAT_erfc(WORD a) {
     a = FORMAT_error_function(1, a);
     return a;

@@ -125,7 +125,7 @@ static void explain_outcome(text *log, const char *clang, const outcome *o) {
 #define EXTENSIONS \
     "-cl-ext=-all,+cl_khr_byte_addressable_store,+cl_khr_global_int32_base_atomics," \
     "+cl_khr_global_int32_extended_atomics,+cl_khr_local_int32_base_atomics,+cl_khr_local_int32_extended_atomics," \
-    "+cl_khr_fp64"
+    "+cl_khr_fp64,+__cl_clang_bitfields"
 
 // (clang's dump doesn't tell what `__builtin_offsetof` comes to; it tells the length of an array)
 static const char *const for_all[] = {"-target",

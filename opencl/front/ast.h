@@ -48,14 +48,27 @@ struct type {
     const char *name; // as clang prints it, for messages
 };
 
+typedef struct field field;
+
+// Bit-fields that follow each other, none of no bits between them: one memory location (C11, 3.14).
 typedef struct {
+    const field *fields;
+    unsigned count;
+    uint64_t offset, size; // in bytes
+    unsigned width;        // of the numbers by which it is accessed, in bytes: 1, 2, 4 or 8
+} bit_row;
+
+struct field {
     const char *name; // empty where it has none
     const type *type;
-    uint64_t offset; // in bytes
+    uint64_t offset; // in bytes; of a bit-field that of its row
     uint64_t align;  // that the layout gives it: 1 where it is packed, else at least that of its type
     bool is_bit_field;
+    unsigned bits;      // of a bit-field: how many it has
+    uint64_t bit;       // and which one of its row is its first
+    const bit_row *row; // NULL where it has no bits, and of all other fields
     place place;
-} field;
+};
 
 struct record {
     const char *name; // empty where it has none

@@ -250,7 +250,7 @@ static value numeric_value(translator *t, const node *n, unsigned which) {
     evaluate_arguments(t, n, given, n->part_count - 1, count);
     for (unsigned i = 0; i < count; i++) {
         if (given[i].value.kind != INTEGER_VALUE && given[i].value.kind != VECTOR_VALUE)
-            refuse_at(t, &n->place, "Clsim has this function of whole numbers only");
+            refuse_at(t, &n->place, "Clsim has %s of whole numbers only", functions[which].name);
         given[i].value = kept_value(t, given[i].value);
     }
     for (unsigned i = 0; i < length; i++) {

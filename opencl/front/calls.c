@@ -180,11 +180,6 @@ static value inline_call(translator *t, const node *n, const node *function, boo
     return translate_call(t, n, function, is_used);
 }
 
-static void judge_function(translator *t, const node *function, const place *at) {
-    for (const attribute *a = function->attributes; a; a = a->next)
-        if (a->kind == UNKNOWN_ATTRIBUTE) refuse_at(t, at, "Clsim doesn't know the attribute %s", a->name);
-}
-
 value call_value(translator *t, const node *n, bool is_used) {
     const node *called = n->parts[0];
     while (called->kind == CAST_EXPRESSION) called = called->parts[0];
@@ -192,7 +187,7 @@ value call_value(translator *t, const node *n, bool is_used) {
     if (!function || function->kind != FUNCTION_DECLARATION)
         refuse_at(t, &n->place, "Clsim has no calls over pointers");
     if (!function->body) return builtin_value(t, n, function->name, is_used);
-    judge_function(t, function, &n->place);
+    judge_attributes(t, function);
     go_deeper(t, &n->place);
     value v = inline_call(t, n, function, is_used);
     t->depth--;

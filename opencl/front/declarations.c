@@ -95,11 +95,6 @@ static bool is_braces(const node *n) {
     return n->kind == INITIALIZER_LIST || n->kind == STRING_LITERAL || n->kind == IMPLICIT_VALUE;
 }
 
-static void judge_attributes(translator *t, const node *n) {
-    for (const attribute *a = n->attributes; a; a = a->next)
-        if (a->kind == UNKNOWN_ATTRIBUTE) refuse_at(t, &a->place, "Clsim doesn't know the attribute %s", a->name);
-}
-
 static bool is_whole(const type *t) { return t->kind == ARRAY_TYPE || t->kind == RECORD_TYPE; }
 
 static bool is_one(const type *t) {

@@ -1,5 +1,7 @@
 // Expressions: their values, where they lie, and what they do.
+#include "../session.h"
 #include "front.h"
+#include <inttypes.h>
 #include <string.h>
 
 // ---- where an expression lies ----
@@ -30,12 +32,24 @@ static uint64_t row_length(const node *array) {
     return inner->kind == MEMBER_EXPRESSION || inner->kind == SUBSCRIPT_EXPRESSION ? inner->type->length : 0;
 }
 
+// The same of 32 bits, by statements that take a work-item less.
+static integer short_index_in_row(translator *t, integer index, uint64_t limit, int64_t far) {
+    const char *word = temporary_name(t), *result = temporary_name(t);
+    emit(t, "uint %s=%s;", word, assigned(t, index, UINT));
+    emit(t, "long %s=%s;", result, word);
+    list outside = one_text(t, format(t, "%s=%" PRId64 "l;", result, far), t->at);
+    append(t, new_branch(t, format(t, "%s>=%" PRIu64 "u", word, limit), outside, (list){NULL, NULL}, t->at));
+    return variable(result, LONG, true);
+}
+
 // An index, or one far in front of every object where it leaves its row. The address of the element behind the last
 // one may be taken (C99 6.5.3.2).
 static integer index_in_row(translator *t, integer index, uint64_t length, bool is_address) {
     uint64_t far = (uint64_t) - (INT64_C(1) << 40);
     uint64_t limit = length + is_address;
     if (index.is_literal) return index.value < limit ? index : literal(t, far, LONG);
+    bool is_short = width_of(type_of(&index)) <= 4 && limit <= greatest(INT);
+    if (is_short && !widens()) return short_index_in_row(t, index, limit, (int64_t)far);
     index = cast_to(t, kept(t, index), LONG);
     integer test = binary(t, LESS, exactly(t, index, ULONG), literal(t, limit, ULONG), ULONG);
     return kept(t, choice(t, test, index, literal(t, far, LONG), LONG));
@@ -51,23 +65,37 @@ static storage component_storage(translator *t, const node *n) {
     return whole(p, n->type);
 }
 
+// The array whose elements a pointer counts, where it is that of an array; NULL else. What is known of the array's
+// address is known of theirs then.
+static const node *array_of(const node *pointer) {
+    pointer = without_casts(pointer);
+    bool is_array = pointer->kind == CAST_EXPRESSION && pointer->cast == ARRAY_TO_POINTER_DECAY;
+    return is_array ? pointer->parts[0] : NULL;
+}
+
 static storage element_storage(translator *t, const node *n, bool is_address) {
     if (n->parts[0]->type->kind == VECTOR_TYPE) return component_storage(t, n);
+    bool turned = n->parts[1]->type->kind == POINTER_TYPE;
+    const node *array = array_of(n->parts[turned]);
     operand parts[] = {{.node = n->parts[0]}, {.node = n->parts[1]}};
+    if (array) parts[turned] = (operand){.node = array, .kind = AS_STORAGE};
     evaluate(t, parts, 2);
-    bool turned = parts[0].value.kind == INTEGER_VALUE;
-    pointer p = parts[turned].value.pointer;
+    const value *base = &parts[turned].value;
+    storage s = whole(array ? base->storage.at : base->pointer, n->type);
     integer index = parts[!turned].value.integer;
     uint64_t length = row_length(n->parts[turned]);
     if (length) index = index_in_row(t, index, length, is_address);
-    p.offset = plus_scaled(t, p.offset, index, (int64_t)size_of_type(t, n->type, &n->place));
-    return whole(p, n->type);
+    s.at.offset = plus_scaled(t, s.at.offset, index, (int64_t)size_of_type(t, n->type, &n->place));
+    s.align = array ? base->storage.align : 0;
+    return s;
 }
 
-static unsigned member_align(const field *f, unsigned known) {
-    unsigned align = (unsigned)f->align, wanted = (unsigned)f->type->align;
-    if (known && known < align) align = known;
-    return align < wanted ? align : 0;
+static storage pointed_storage(translator *t, const node *n) {
+    const node *array = array_of(n->parts[0]);
+    if (!array) return whole(evaluate_value(t, n->parts[0]).pointer, n->type);
+    storage s = evaluate_storage(t, array);
+    s.type = n->type;
+    return s;
 }
 
 static storage member_storage(translator *t, const node *n) {
@@ -78,9 +106,8 @@ static storage member_storage(translator *t, const node *n) {
     else s = evaluate_value(t, from).storage;
     if (!n->field) refuse_at(t, &n->place, "Clsim has no such member");
     size_of_type(t, s.type, &n->place); // its layout is known
-    unsigned known = s.align ? s.align : s.type->align < 8 ? (unsigned)s.type->align : 0;
-    storage member = whole(shifted(s.at, (int64_t)n->field->offset), n->type);
-    member.align = member_align(n->field, known);
+    storage member = member_of(&s, n->field);
+    member.type = n->type;
     return member;
 }
 
@@ -126,7 +153,7 @@ static storage storage_of(translator *t, const node *n, bool is_address) {
     case COMPOUND_LITERAL: return literal_storage(t, n);
     case STRING_LITERAL: return whole(pointer_to(t, text_table(t, n)), n->type);
     case UNARY_EXPRESSION:
-        if (n->operation == POINTED_TO) return whole(evaluate_value(t, n->parts[0]).pointer, n->type);
+        if (n->operation == POINTED_TO) return pointed_storage(t, n);
         break;
     case CAST_EXPRESSION:
         if (n->is_lvalue && (n->cast == NO_OP || n->cast == LVALUE_BIT_CAST)) {
@@ -205,6 +232,15 @@ static value cast_of_integer(translator *t, const node *n) {
     return integer_value(cast_to(t, unary(t, MINUS, cast_to(t, v, INT), INT), core_type(n->type)));
 }
 
+// An address as a number is known where it is one by the null pointer, as in `(size_t)&((T *)0)->x`.
+static value address_as_number(translator *t, const node *n) {
+    pointer p = evaluate_value(t, n->parts[0]).pointer;
+    bool is_null = p.count == 1 && p.objects[0] == t->null && is_constant(p.offset);
+    if (p.count && !is_null) refuse_at(t, &n->place, "Clsim has no addresses as numbers");
+    integer_type type = core_type(n->type);
+    return integer_value(is_null ? literal(t, (uint64_t)p.offset.constant, type) : unknown(t, type));
+}
+
 static value cast_value(translator *t, const node *n) {
     const node *from = n->parts[0];
     switch (n->cast) {
@@ -228,7 +264,7 @@ static value cast_value(translator *t, const node *n) {
     case FLOATING_CAST:
     case FLOATING_TO_INTEGRAL:
     case FLOATING_TO_BOOLEAN: return floating_cast(t, n);
-    case POINTER_TO_INTEGRAL: refuse_at(t, &n->place, "Clsim has no addresses as numbers");
+    case POINTER_TO_INTEGRAL: return address_as_number(t, n);
     case INTEGRAL_TO_POINTER: refuse_at(t, &n->place, "Clsim has no numbers as addresses");
     default: refuse_at(t, &n->place, "Clsim has no such cast (%s)", n->name ? n->name : "");
     }

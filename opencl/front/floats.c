@@ -45,6 +45,7 @@ static integer call_helper(translator *t, const char *name, const integer *argum
     const char *variable_name = temporary_name(t);
     use_helper(t, (unsigned)number);
     emit(t, "%s %s=%s(%s);", name_of(h->result), variable_name, name, call.at);
+    t->out.last->result = variable_name;
     return variable(variable_name, h->result, true);
 }
 
@@ -98,10 +99,15 @@ bool stores_result(const float_operation *f) { return f->stored_helper; }
 unsigned operand_count(const float_operation *f) {
     unsigned count = 1;
     for (const char *c = f->arguments; *c; c++) {
-        if (*c == 'b' || *c == 'i') count = count < 2 ? 2 : count;
+        if (*c == 'b' || *c == 'B' || *c == 'i') count = count < 2 ? 2 : count;
         if (*c == 'c') count = 3;
     }
     return count;
+}
+
+static integer with_other_sign(translator *t, integer v, unsigned width) {
+    integer_type bits = integer_of(width, false);
+    return binary(t, BIT_XOR, v, literal(t, UINT64_C(1) << (8 * width - 1), bits), bits);
 }
 
 static integer helper_result(translator *t, unsigned width, const char *helper, const char *letters, result_kind result,
@@ -112,6 +118,7 @@ static integer helper_result(translator *t, unsigned width, const char *helper, 
     for (const char *c = letters; *c && count < MOST_PARAMETERS; c++) {
         bool is_digit = *c >= '0' && *c <= '9';
         if (is_digit) arguments[count++] = literal(t, (uint64_t)(*c - '0'), INT);
+        else if (*c == 'B') arguments[count++] = with_other_sign(t, operands[1], width);
         else arguments[count++] = *c == 'a' ? first : operands[*c == 'i' ? 1 : *c - 'a'];
     }
     integer v = call_helper(t, format(t, "%s_%s", width == 4 ? "float" : "double", helper), arguments);
@@ -185,14 +192,22 @@ static integer between_formats(translator *t, integer v, unsigned from, unsigned
     return from < to ? call_helper(t, name, &v) : call_helper(t, name, both);
 }
 
-static integer from_whole(translator *t, integer v, bool has_sign, unsigned to, rounding mode) {
-    integer both[] = {literal(t, mode == BY_DEFAULT ? TO_NEAREST : mode, INT), cast_to(t, v, has_sign ? LONG : ULONG)};
+static integer from_whole(translator *t, integer v, const type *from, unsigned to, rounding mode) {
+    bool has_sign = from->is_signed, is_nearest = mode == BY_DEFAULT || mode == TO_NEAREST;
+    if (from->width <= 4 && is_nearest) {
+        v = cast_to(t, v, has_sign ? INT : UINT);
+        return call_helper(t, format(t, "%s_from_%s", format_name(to), has_sign ? "int" : "uint"), &v);
+    }
+    integer both[] = {literal(t, is_nearest ? TO_NEAREST : mode, INT), cast_to(t, v, has_sign ? LONG : ULONG)};
     return call_helper(t, format(t, "%s_from_%s", format_name(to), has_sign ? "long" : "ulong"), both);
 }
 
 // What the type can't hold becomes the nearest that it can, and what is no number 0.
 static integer to_whole(translator *t, integer v, unsigned from, integer_type to, rounding mode) {
-    integer three[] = {literal(t, mode == BY_DEFAULT ? TO_ZERO : mode, INT), v, literal(t, greatest(to), ULONG)};
+    bool is_to_zero = mode == BY_DEFAULT || mode == TO_ZERO;
+    if (is_to_zero && (to == INT || to == UINT))
+        return call_helper(t, format(t, "%s_to_%s", format_name(from), name_of(to)), &v);
+    integer three[] = {literal(t, is_to_zero ? TO_ZERO : mode, INT), v, literal(t, greatest(to), ULONG)};
     const char *name = format(t, "%s_to_%s", format_name(from), is_signed(to) ? "signed" : "unsigned");
     return cast_to(t, call_helper(t, name, three), to);
 }
@@ -200,7 +215,7 @@ static integer to_whole(translator *t, integer v, unsigned from, integer_type to
 integer converted_number(translator *t, integer v, const type *from, const type *to, rounding mode) {
     bool of_float = from->kind == FLOATING_TYPE, to_float = to->kind == FLOATING_TYPE;
     if (of_float && to_float) return between_formats(t, v, from->width, to->width, mode);
-    if (to_float) return from_whole(t, v, from->is_signed, to->width, mode);
+    if (to_float) return from_whole(t, v, from, to->width, mode);
     if (!of_float) return cast_to(t, v, core_type(to));
     if (to->is_bool) return cast_to(t, is_not_zero_float(t, v, from->width), UCHAR);
     return to_whole(t, v, from->width, core_type(to), mode);

@@ -57,6 +57,7 @@ typedef struct {
     unsigned align;                  // what is known of its address, where that is less than its type asks for, else 0
     const unsigned char *components; // of a vector, those that are meant; NULL where all of it is
     unsigned component_count;
+    const field *bits; // the bit-field that it is, and `at` is where its row begins; NULL for none
 } storage;
 
 typedef enum { NO_VALUE, INTEGER_VALUE, VECTOR_VALUE, POINTER_VALUE, RECORD_VALUE, STORAGE_VALUE } value_kind;
@@ -105,6 +106,7 @@ struct statement {
     const call_site *calls; // as in `judged_place`
     unsigned loop;
     const turn_before *before;
+    const char *result; // the variable of its own that it gives the result of a call, or NULL
 };
 
 // ---- objects ----
@@ -115,6 +117,10 @@ typedef enum { IN_PRIVATE, IN_GLOBAL, IN_CONSTANT, IN_LOCAL, NOWHERE } object_sp
 
 // What an object is to the node that it belongs to.
 typedef enum { ITSELF, POINTED_TO_BY, RESULT_OF } object_role;
+
+// Where bit-fields that are variables of their own are among the leaves of an object: their offsets are in bits from
+// here on, and so are their widths.
+#define FIRST_BIT_LEAF (UINT64_C(1) << 62)
 
 // A number in private memory that is always accessed at one place.
 typedef struct {
@@ -133,7 +139,7 @@ typedef struct {
     object **bases; // into which it may point
     unsigned count, room, count_before;
     uint64_t unit, unit_before; // of its offsets, 0 where all are 0
-    bool was_known;
+    bool is_read, was_known;
     const char *name, *selector; // of its variables in this pass, NULL for none
 } pointer_leaf;
 
@@ -152,7 +158,8 @@ struct object {
     unsigned types, types_before;          // by which it is accessed at places that aren't constant, a bit for each
     unsigned atomic_types;                 // by which atomic functions access it
     bool is_stored, was_stored;
-    bool is_array; // it is judged as an array
+    bool is_read_anywhere; // it is loaded from at a place that isn't constant
+    bool is_array;         // it is judged as an array
     // in this pass
     unsigned pass; // that it belongs to
     object_space space;
@@ -223,6 +230,7 @@ typedef struct name {
     struct name *next;
     const char *text;
     unsigned last; // number that was put behind it
+    unsigned uses; // in the kernel's text, once they are counted
 } name;
 
 typedef struct note {
@@ -299,6 +307,8 @@ void refuse_at(translator *t, const place *at, const char *format, ...) __attrib
 const char *format(translator *t, const char *format, ...) __attribute__((format(printf, 2, 3)));
 const char *format_values(translator *t, const char *format, va_list values);
 void add_note(translator *t, const char *text);
+// Refuses a declaration with an attribute that isn't known; of a function its parameters too.
+void judge_attributes(translator *t, const node *n);
 // `*list` with room for one more, in the arena of the pass.
 void *grown(arena *a, void *list, unsigned count, unsigned *room, size_t size);
 // Counts one level deeper, up to MAX_DEPTH.
@@ -311,6 +321,9 @@ const char *temporary_name(translator *t);
 void take_name(translator *t, const char *text);
 bool is_taken(const translator *t, const char *text);
 // Remembers what a name stands for in the client's source.
+// Counts the names in a text, and says how often one was counted.
+void count_names(translator *t, const char *text);
+unsigned uses_of(const translator *t, const char *text);
 void show_name(translator *t, const char *judged, const char *shown);
 // The calls round what is being translated.
 const call_site *calls_here(const translator *t);
@@ -389,8 +402,10 @@ typedef struct {
     uint64_t offset;
     const type *type; // an integer, a floating-point number, a pointer or an event
     unsigned align;
+    const bit_row *row; // that stands there; NULL for a number
 } number_place;
-// The numbers in a type, in the order of their offsets; of a union those of its largest member.
+// The numbers in a type, in the order of their offsets, a row of bit-fields as one; of a union those of a member that
+// has all bytes of the others, or else bytes.
 number_place *numbers_in(translator *t, const type *type, const place *at, unsigned *count);
 // `name` with what stands at an offset: `s_b` and `w_3`, or as C has it: `s.b` and `w[3]`.
 const char *part_name(translator *t, const char *name, const type *type, uint64_t offset, bool as_in_source);
@@ -404,6 +419,8 @@ void learn(translator *t, unsigned *set, unsigned bits);
 void learn_fact(translator *t, bool *fact);
 leaf *find_leaf(const object *o, uint64_t offset, unsigned width);
 leaf *learn_leaf(translator *t, object *o, uint64_t offset, unsigned width, unsigned types);
+// Whether one of these bits of a private object, from one to in front of another, was read in the pass before.
+bool is_read_at(const object *o, uint64_t first, uint64_t end);
 pointer_leaf *find_pointer(const object *o, uint64_t offset);
 pointer_leaf *learn_pointer(translator *t, object *o, uint64_t offset);
 // An object that is new in this pass.
@@ -445,6 +462,8 @@ void for_chosen(translator *t, const integer *selector, object *const *objects, 
 // ---- pointers.c ----
 void store_pointer(translator *t, pointer to, pointer p, const place *at);
 pointer load_pointer(translator *t, pointer from, const place *at);
+// Whether the pointer that lies there is read nowhere.
+bool is_dead_pointer(pointer at);
 integer is_not_null(translator *t, pointer p);
 integer compare_pointers(translator *t, operation op, pointer a, pointer b, const place *at);
 integer difference(translator *t, pointer a, pointer b, uint64_t size, const place *at);
@@ -453,11 +472,30 @@ pointer choose_pointer(translator *t, integer condition, pointer a, pointer b, b
 // ---- storage.c ----
 value get(translator *t, storage s, const place *at);
 void put(translator *t, storage s, value v, const place *at);
-void put_zeros(translator *t, pointer p, const type *type, const place *at);
+// A member of a struct or a union. What is known of its address depends on what is known of the whole's.
+storage member_of(const storage *s, const field *f);
 // Stores what an initializer gives.
 void initialize(translator *t, pointer p, const type *type, const node *n, const place *at);
 storage whole(pointer p, const type *type);
 pointer aligned_vector(translator *t, const storage *s);
+// A value as a place holds it: of a bit-field its lowest bits.
+value held_value(translator *t, value v, const storage *s);
+
+// ---- bits.c ----
+// A bit-field, by where its row begins.
+integer load_bits(translator *t, pointer row, const field *f, unsigned align, const place *at);
+void store_bits(translator *t, pointer row, const field *f, integer v, unsigned align, const place *at);
+integer lowest_bits(translator *t, integer v, const field *f);
+// The numbers of a row, and those that are stored into it. What no field has of them is 0, or lost, where the fields
+// are variables.
+const integer *load_row(translator *t, pointer at, const bit_row *row, unsigned align, const place *place);
+void store_row(translator *t, pointer at, const bit_row *row, const integer *numbers, unsigned align,
+               const place *place);
+void copy_row(translator *t, pointer to, pointer from, const bit_row *row, unsigned to_align, unsigned from_align,
+              const place *at);
+void put_zero_row(translator *t, pointer at, const bit_row *row, unsigned align, const place *place);
+unsigned numbers_of_row(const bit_row *row);
+integer_type type_of_row(const bit_row *row);
 
 // ---- tables.c ----
 // The object of a variable in constant memory, or of a text.
@@ -569,6 +607,10 @@ list begin_of_copies(translator *t, const place *at);
 void translate_kernel(translator *t, const node *function, judged_kernel *k, text *to);
 // Whether a name is a word of the language, or one of the driver's own.
 bool is_reserved_name(const char *name);
+
+// ---- joined.c ----
+// The list of a kernel or of a function, with calls put where their results are used.
+list with_calls_joined(translator *t, list l);
 
 // ---- writer.c ----
 // Notes the place of what is written next.

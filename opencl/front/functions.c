@@ -168,7 +168,7 @@ void write_functions(translator *t, text *to) {
     for (const own_function *f = t->written; f; f = f->written) {
         add_place(t, (judged_place){.offset = to->length, .at = &f->function->place});
         add(to, f->head);
-        write_list(t, to, f->body);
+        write_list(t, to, with_calls_joined(t, f->body));
         add(to, "}\n");
     }
 }
@@ -213,5 +213,6 @@ value call_function(translator *t, const node *n, const node *function, const op
     }
     const char *name = temporary_name(t);
     emit(t, "%s %s=%s(%s);", name_of(core), name, f->name, given.at);
+    t->out.last->result = name;
     return integer_value(variable(name, core, true));
 }

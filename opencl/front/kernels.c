@@ -73,6 +73,7 @@ static bool is_numbers(const object *o, const number_place *numbers, unsigned co
     if (o->is_array) return false;
     for (unsigned i = 0; i < o->leaf_count; i++) named += o->leaves[i].name != NULL;
     for (unsigned i = 0; i < count; i++) {
+        if (numbers[i].row) continue;
         const leaf *l = find_leaf(o, numbers[i].offset, numbers[i].type->width);
         named -= l && l->name;
     }
@@ -84,6 +85,21 @@ static const char *number_name(translator *t, const object *o, const number_plac
     judged = fresh_name(t, judged);
     show_name(t, judged, is_alone ? o->name : part_name(t, o->name, o->type, n->offset, true));
     return judged;
+}
+
+// A row of bit-fields has a parameter for each of its numbers.
+static void take_row(translator *t, written_parameters *all, unsigned argument, object *o, const number_place *n) {
+    unsigned count = numbers_of_row(n->row);
+    integer *numbers = take(&t->pass, count * sizeof *numbers);
+    for (unsigned i = 0; i < count; i++) {
+        written_parameter w = {.argument = argument, .offset = n->offset + i * n->row->width};
+        w.type = type_of_row(n->row);
+        w.name = fresh_name(t, format(t, "%s_bits", o->name));
+        show_name(t, w.name, NULL);
+        add_written(t, all, w);
+        numbers[i] = variable(w.name, w.type, true);
+    }
+    store_row(t, shifted(pointer_to(t, o), (int64_t)n->offset), n->row, numbers, n->align, &t->kernel_function->place);
 }
 
 // A struct or a vector has a parameter for each number in it.
@@ -101,6 +117,10 @@ static void take_value(translator *t, written_parameters *all, unsigned argument
     if (!direct) write_declarations(t, o, "");
     for (unsigned i = 0; i < count; i++) {
         const number_place *n = &numbers[i];
+        if (n->row) {
+            take_row(t, all, argument, o, n);
+            continue;
+        }
         if (n->type->kind != INTEGER_TYPE && n->type->kind != FLOATING_TYPE)
             refuse_at(t, &p->place, "Clsim has no parameter of the type %s", n->type->name);
         const leaf *l = direct ? find_leaf(o, n->offset, n->type->width) : NULL;
@@ -313,11 +333,6 @@ static void translate_body(translator *t, const node *function, written_paramete
     translate_statement(t, function->body, true);
 }
 
-static void judge_attributes(translator *t, const node *function) {
-    for (const attribute *a = function->attributes; a; a = a->next)
-        if (a->kind == UNKNOWN_ATTRIBUTE) refuse_at(t, &a->place, "Clsim doesn't know the attribute %s", a->name);
-}
-
 // One pass. False where it is left, since a function can't stay one.
 static bool run_pass(translator *t, const node *function, written_parameters *all) {
     *all = (written_parameters){NULL, 0, 0};
@@ -364,7 +379,7 @@ void translate_kernel(translator *t, const node *function, judged_kernel *k, tex
     list begin = t->uses_null ? one_text(t, "uchar clsim_null[1];", at) : (list){NULL, NULL};
     if (t->prints) append_list(&begin, begin_of_printing(t, at));
     if (t->uses_copies) append_list(&begin, begin_of_copies(t, at));
-    append_list(&begin, t->out);
+    append_list(&begin, with_calls_joined(t, t->out));
     write_list(t, to, begin);
     add(to, "}\n");
     k->length = to->length - k->begin;

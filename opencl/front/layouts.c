@@ -1,5 +1,6 @@
 // Types as memory has them: their sizes, and the numbers in them.
 #include "front.h"
+#include <string.h>
 
 // A floating-point number is the integer of its bits.
 integer_type core_type(const type *t) { return integer_of(t->width, t->kind == INTEGER_TYPE && t->is_signed); }
@@ -12,7 +13,8 @@ static void judge_record(translator *t, const record *r, const place *at) {
     if (!r->is_complete) refuse_at(t, at, "the type %s is incomplete", r->name);
     if (r->unknown_attribute) refuse_at(t, at, "Clsim doesn't know the attribute %s", r->unknown_attribute);
     for (unsigned i = 0; i < r->field_count; i++)
-        if (r->fields[i].is_bit_field) refuse_at(t, &r->fields[i].place, "Clsim has no bit-fields");
+        if (r->fields[i].row && *r->fields[i].name && r->fields[i].type->is_signed)
+            refuse_at(t, &r->fields[i].place, "Clsim has bit-fields of unsigned types only");
 }
 
 uint64_t size_of_type(translator *t, const type *type, const place *at) {
@@ -46,29 +48,59 @@ typedef struct {
 
 static unsigned smaller(uint64_t a, uint64_t b) { return (unsigned)(a < b ? a : b); }
 
-static void add_number(numbers *n, const type *type, uint64_t offset, unsigned align) {
+static void add_number(numbers *n, const type *type, uint64_t offset, unsigned align, const bit_row *row) {
     if (n->count == MAX_NUMBERS) refuse_at(n->t, n->at, "an object of more than %d numbers", MAX_NUMBERS);
     n->numbers = grown(&n->t->pass, n->numbers, n->count, &n->room, sizeof *n->numbers);
-    n->numbers[n->count++] = (number_place){offset, type, align};
-}
-
-static const field *largest_member(const record *r) {
-    const field *largest = r->fields;
-    for (unsigned i = 1; i < r->field_count; i++)
-        if (r->fields[i].type->size > largest->type->size) largest = &r->fields[i];
-    return largest;
+    n->numbers[n->count++] = (number_place){offset, type, align, row};
 }
 
 static void add_numbers(numbers *n, const type *type, uint64_t offset, unsigned align);
 
-static void add_fields(numbers *n, const record *r, uint64_t offset, unsigned align) {
-    if (r->is_union) {
-        const field *f = r->field_count ? largest_member(r) : NULL;
-        if (f) add_numbers(n, f->type, offset, smaller(align, f->align));
-        return;
+// A row of bit-fields is there once, by the first of them.
+static void add_field(numbers *n, const field *f, uint64_t offset, unsigned align) {
+    if (f->row && f == f->row->fields) add_number(n, f->type, offset + f->offset, align, f->row);
+    if (!f->is_bit_field) add_numbers(n, f->type, offset + f->offset, smaller(align, f->align));
+}
+
+// ---- of a union ----
+
+// Marks the bytes of the numbers in a member.
+static void mark_bytes(const numbers *n, const field *f, unsigned char *marks) {
+    numbers own = {.t = n->t, .at = n->at};
+    add_field(&own, f, 0, 1);
+    for (unsigned i = 0; i < own.count; i++) {
+        const number_place *p = &own.numbers[i];
+        memset(marks + p->offset, 1, p->row ? p->row->size : p->type->size);
     }
-    for (unsigned i = 0; i < r->field_count; i++)
-        add_numbers(n, r->fields[i].type, offset + r->fields[i].offset, smaller(align, r->fields[i].align));
+}
+
+// The first member that has all bytes of the others; NULL where none has. `all` gets the bytes of all of them.
+static const field *whole_member(const numbers *n, const record *r, unsigned char *all) {
+    unsigned char *own = take(&n->t->pass, r->size + 1);
+    for (unsigned i = 0; i < r->field_count; i++) mark_bytes(n, &r->fields[i], all);
+    for (unsigned i = 0; i < r->field_count; i++) {
+        memset(own, 0, r->size);
+        mark_bytes(n, &r->fields[i], own);
+        if (!memcmp(own, all, r->size)) return &r->fields[i];
+    }
+    return NULL;
+}
+
+// By the numbers of a member, or byte by byte.
+static void add_union(numbers *n, const record *r, uint64_t offset, unsigned align) {
+    static const type byte = {.kind = INTEGER_TYPE, .width = 1, .size = 1, .align = 1, .name = "uchar"};
+    unsigned char *all = take(&n->t->pass, r->size + 1);
+    const field *whole = r->field_count == 1 ? r->fields : whole_member(n, r, all);
+    if (whole) add_field(n, whole, offset, align);
+    else
+        for (uint64_t i = 0; i < r->size; i++)
+            if (all[i]) add_number(n, &byte, offset + i, 1, NULL);
+}
+
+static void add_fields(numbers *n, const record *r, uint64_t offset, unsigned align) {
+    judge_record(n->t, r, n->at);
+    if (r->is_union) add_union(n, r, offset, align);
+    for (unsigned i = 0; !r->is_union && i < r->field_count; i++) add_field(n, &r->fields[i], offset, align);
 }
 
 // Types are nested as deep as clang lets them be, which bounds this.
@@ -77,10 +109,10 @@ static void add_numbers(numbers *n, const type *type, uint64_t offset, unsigned 
     case INTEGER_TYPE:
     case FLOATING_TYPE:
     case POINTER_TYPE:
-    case EVENT_TYPE: add_number(n, type, offset, smaller(align, type->align)); break;
+    case EVENT_TYPE: add_number(n, type, offset, smaller(align, type->align), NULL); break;
     case VECTOR_TYPE:
         for (uint64_t i = 0; i < type->length; i++)
-            add_number(n, type->of, offset + i * type->of->size, smaller(align, type->of->align));
+            add_number(n, type->of, offset + i * type->of->size, smaller(align, type->of->align), NULL);
         break;
     case ARRAY_TYPE:
         for (uint64_t i = 0; i < type->length; i++)
@@ -101,10 +133,14 @@ number_place *numbers_in(translator *t, const type *type, const place *at, unsig
 
 // ---- names of parts ----
 
-static const field *field_at(const record *r, uint64_t offset) {
-    for (unsigned i = 0; i < r->field_count; i++)
-        if (r->fields[i].offset <= offset && offset < r->fields[i].offset + r->fields[i].type->size)
-            return &r->fields[i];
+static uint64_t first_bit(const field *f) { return 8 * f->offset + (f->row ? f->bit : 0); }
+static uint64_t bit_count(const field *f) { return f->is_bit_field ? f->bits : 8 * f->type->size; }
+
+static const field *field_at(const record *r, uint64_t bit) {
+    for (unsigned i = 0; i < r->field_count; i++) {
+        const field *f = &r->fields[i];
+        if (first_bit(f) <= bit && bit - first_bit(f) < bit_count(f)) return f;
+    }
     return NULL;
 }
 
@@ -115,21 +151,22 @@ static const char *component_name(translator *t, const char *name, const type *t
 }
 
 const char *part_name(translator *t, const char *name, const type *type, uint64_t offset, bool as_in_source) {
+    uint64_t bit = offset < FIRST_BIT_LEAF ? 8 * offset : offset - FIRST_BIT_LEAF;
     while (type->kind == RECORD_TYPE || type->kind == ARRAY_TYPE || type->kind == VECTOR_TYPE) {
         if (type->kind == RECORD_TYPE) {
-            const field *f = field_at(type->record, offset);
-            if (!f) return as_in_source ? name : format(t, "%s_%u", name, (unsigned)offset);
+            const field *f = field_at(type->record, bit);
+            if (!f) return as_in_source ? name : format(t, "%s_%u", name, (unsigned)(bit / 8));
             if (*f->name || !as_in_source)
                 name = format(t, "%s%c%s", name, as_in_source ? '.' : '_', *f->name ? f->name : "u");
-            offset -= f->offset;
+            bit -= first_bit(f);
             type = f->type;
             continue;
         }
-        uint64_t size = type->of->size ? type->of->size : 1, index = offset / size;
+        uint64_t size = type->of->size ? 8 * type->of->size : 8, index = bit / size;
         if (!as_in_source) name = format(t, "%s_%u", name, (unsigned)index);
         else if (type->kind == VECTOR_TYPE) name = component_name(t, name, type, index);
         else name = format(t, "%s[%u]", name, (unsigned)index);
-        offset %= size;
+        bit %= size;
         type = type->of;
     }
     return name;

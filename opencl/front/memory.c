@@ -127,6 +127,9 @@ static pieces pieces_of(translator *t, linear l, unsigned width, unsigned align)
     return (pieces){aligned(t, l, width), width, 1};
 }
 
+// An offset all of whose parts are in variables, for several accesses.
+static linear kept_offset(translator *t, linear l) { return kept_pointer(t, (pointer){.offset = l}).offset; }
+
 static integer_type type_of_piece(const pieces *p, integer_type type) {
     return p->width == width_of(type) ? type : integer_of(p->width, false);
 }
@@ -200,6 +203,7 @@ static integer load_pieces(translator *t, object *o, pieces p, integer_type type
         v.has_effect = true;
         return cast_to(t, v, type);
     }
+    if (count > 1) p.at = kept_offset(t, p.at);
     for (unsigned i = 0; i < count; i++) {
         integer piece = element_at(t, o, array, plus(p.at, (int64_t)i * step), at);
         if (count == 1) return cast_to(t, piece, type);
@@ -235,7 +239,7 @@ static integer load_from(translator *t, object *o, linear l, integer_type type, 
     if (is_leaf && o->alias && o->alias->kind == INTEGER_VALUE && !l.constant && width == o->size)
         return cast_to(t, o->alias->integer, type);
     if (is_leaf && !o->is_array) return load_leaf(t, o, (uint64_t)l.constant, type);
-    if (is_leaf) learn_leaf(t, o, (uint64_t)l.constant, width, 1u << type);
+    learn_fact(t, is_leaf ? &learn_leaf(t, o, (uint64_t)l.constant, width, 1u << type)->is_read : &o->is_read_anywhere);
     return load_pieces(t, o, pieces_of(t, l, width, align), type, at);
 }
 
@@ -303,6 +307,7 @@ static void store_pieces(translator *t, object *o, pieces p, integer_type type, 
         emit(t, "%s=%s;", held_access(t, &array, at), assigned(t, cast_to(t, v, array.element), array.element));
         return;
     }
+    if (count > 1) p.at = kept_offset(t, p.at);
     if (count > 1) v = kept(t, v);
     for (unsigned i = 0; i < count; i++) {
         integer index = index_in(t, o, plus(p.at, (int64_t)i * step), element), piece = v;

@@ -3,24 +3,27 @@
 #include "front.h"
 #include <string.h>
 
-static unsigned bucket_of(const char *text) {
+static unsigned bucket_of(const char *text, size_t length) {
     unsigned hash = 5381;
-    for (; *text; text++) hash = hash * 33 + (unsigned char)*text;
+    for (size_t i = 0; i < length; i++) hash = hash * 33 + (unsigned char)text[i];
     return hash % BUCKETS;
 }
 
-static name *find_name(const translator *t, const char *text) {
-    name *n = t->names[bucket_of(text)];
-    while (n && strcmp(n->text, text)) n = n->next;
+static name *find_word(const translator *t, const char *text, size_t length) {
+    name *n = t->names[bucket_of(text, length)];
+    while (n && (strncmp(n->text, text, length) || n->text[length])) n = n->next;
     return n;
 }
+
+static name *find_name(const translator *t, const char *text) { return find_word(t, text, strlen(text)); }
 
 bool is_taken(const translator *t, const char *text) { return find_name(t, text) != NULL; }
 
 void take_name(translator *t, const char *text) {
     name *n = take(&t->pass, sizeof *n);
-    *n = (name){t->names[bucket_of(text)], text, 1};
-    t->names[bucket_of(text)] = n;
+    unsigned bucket = bucket_of(text, strlen(text));
+    *n = (name){t->names[bucket], text, 1, 0};
+    t->names[bucket] = n;
 }
 
 static bool is_name_byte(char c) {
@@ -46,6 +49,19 @@ const char *temporary_name(translator *t) {
     while (is_taken(t, text));
     take_name(t, text);
     return text;
+}
+
+void count_names(translator *t, const char *text) {
+    for (size_t n; *text; text += n + !n) {
+        for (n = 0; is_name_byte(text[n]);) n++;
+        name *found = n ? find_word(t, text, n) : NULL;
+        if (found) found->uses++;
+    }
+}
+
+unsigned uses_of(const translator *t, const char *text) {
+    const name *n = find_name(t, text);
+    return n ? n->uses : 0;
 }
 
 void show_name(translator *t, const char *judged, const char *shown) {

@@ -397,13 +397,23 @@ static void open_field(builder *b, const rule *r, const dump_line *line) {
         .name = name, .type = need_type(b, &s), .place = client_place(b->rows, line->own.row, line->own.column)};
 }
 
+// What the width of a bit-field comes to, which clang tells below it.
+static void take_width(builder *b, const dump_line *line) {
+    frame *of = top(b) - 1;
+    const char *s = line->rest;
+    if (of->shape != FIELD_SHAPE || strncmp(s, "Int ", 4)) return;
+    s += 4;
+    of->has_value = read_number(&s, &of->value) && !*s;
+}
+
 // (an expression below a member is the width of a bit-field)
 static void close_field(builder *b, frame *f) {
     f->field.field.is_bit_field = b->part_count > f->first_part;
     b->part_count = f->first_part;
     frame *of = top(b);
     if (f->unknown_attribute) of->unknown_attribute = f->unknown_attribute;
-    if (f->field.field.is_bit_field) of->unknown_attribute = "bit-field";
+    if (f->field.field.is_bit_field && (!f->has_value || f->value > 64)) of->unknown_attribute = "bit-field";
+    f->field.field.bits = (unsigned)f->value;
     b->fields = grown(b->arena, b->fields, b->field_count, &b->field_room, sizeof *b->fields);
     b->fields[b->field_count++] = (known_field){f->field, f->id};
 }
@@ -473,7 +483,7 @@ static void follow_type(builder *b, const dump_line *line) {
 static void close_type_name(builder *b, const frame *f) {
     const char *s = f->text;
     const type *of = f->type ? f->type : need_type(b, &s);
-    declare_type_name(b->types, f->name, of, f->form.aligned);
+    declare_type_name(b->types, f->name, of, f->form.aligned, f->unknown_attribute);
     if (f->depth == 1 && !strcmp(f->name, LAST_NAME)) b->has_end = true;
     else add_idle(b, f);
 }
@@ -488,6 +498,11 @@ static void open_attribute(builder *b, const rule *r, const dump_line *line) {
 
 static bool is_named(const attribute *a, const char *name) { return !strcmp(a->name, name); }
 
+// Whether an attribute is one of a typedef whose type clang tells with what it means.
+static bool is_in_type(const frame *of, const attribute *a) {
+    return of->shape == TYPE_NAME_SHAPE && is_named(a, "ModeAttr");
+}
+
 // What an attribute means for a layout.
 static void apply_to_layout(frame *of, const attribute *a) {
     bool is_record = of->shape == RECORD_SHAPE, is_field = of->shape == FIELD_SHAPE;
@@ -500,7 +515,8 @@ static void apply_to_layout(frame *of, const attribute *a) {
     else if (a->kind == ALIGN_ATTRIBUTE && aligned) {
         uint64_t *to = is_field ? &of->field.aligned : &of->form.aligned;
         if (*to < aligned) *to = aligned;
-    } else if (a->kind != IDLE_ATTRIBUTE && !is_named(a, "MayAliasAttr")) of->unknown_attribute = a->name;
+    } else if (a->kind != IDLE_ATTRIBUTE && !is_named(a, "MayAliasAttr") && !is_in_type(of, a))
+        of->unknown_attribute = a->name;
 }
 
 static void close_attribute(builder *b, frame *f) {
@@ -588,7 +604,7 @@ static void read_node(builder *b, const dump_line *line) {
     }
     if (line->depth != f->depth + 1) stop_at(b, "a line that can't be read: %.100s", line->rest);
     if (line->kind == NULL_LINE && f->node && f->node->kind == FOR_STATEMENT) add_part(b, NULL);
-    else if (line->kind == VALUE_LINE && f->shape == WRAPPER_SHAPE) return;
+    else if (line->kind == VALUE_LINE && f->shape == WRAPPER_SHAPE) take_width(b, line);
     else if (!r) stop_at(b, "a line that can't be read: %.100s", line->rest);
     else if (line->is_filler || is_left_out(b, r, line)) b->skipped = line->depth;
     else open_node(b, r, line);

@@ -94,11 +94,40 @@ pointer_leaf *learn_pointer(translator *t, object *o, uint64_t offset) {
 
 // ---- passes ----
 
+static bool is_of_bits(const leaf *l) { return l->offset >= FIRST_BIT_LEAF; }
+static uint64_t first_bit(const leaf *l) { return is_of_bits(l) ? l->offset - FIRST_BIT_LEAF : 8 * l->offset; }
+static uint64_t end_bit(const leaf *l) { return first_bit(l) + (is_of_bits(l) ? 1 : 8) * (uint64_t)l->width; }
+static bool overlap(const leaf *a, const leaf *b) { return first_bit(a) < end_bit(b) && first_bit(b) < end_bit(a); }
+
+bool is_read_at(const object *o, uint64_t first, uint64_t end) {
+    if (o->is_read_anywhere) return true;
+    const uint64_t widest = 64, from = first > widest ? first - widest : 0;
+    const uint64_t begins[] = {from / 8, FIRST_BIT_LEAF + from};
+    for (int of_bits = 0; of_bits < 2; of_bits++)
+        for (unsigned i = leaf_index(o, begins[of_bits], 0); i < o->leaf_count; i++) {
+            const leaf *l = &o->leaves[i];
+            if (is_of_bits(l) != of_bits || first_bit(l) >= end) break;
+            if (l->was_read && end_bit(l) > first) return true;
+        }
+    return false;
+}
+
+// Whether a bit-field is accessed as a part of a number, too.
+static bool overlaps_numbers(const object *o, const leaf *bits) {
+    for (unsigned i = 0; i < o->leaf_count && !is_of_bits(&o->leaves[i]); i++)
+        if (overlap(&o->leaves[i], bits)) return true;
+    return false;
+}
+
 // Whether an object's variables don't do: it is accessed at places that aren't constant, or that overlap.
 static bool needs_array(const object *o) {
     if (o->types) return true;
-    for (unsigned i = 1; i < o->leaf_count; i++)
-        if (o->leaves[i - 1].offset + o->leaves[i - 1].width > o->leaves[i].offset) return true;
+    for (unsigned i = 1; i < o->leaf_count; i++) {
+        const leaf *l = &o->leaves[i];
+        if (is_of_bits(l - 1) == is_of_bits(l) && overlap(l - 1, l)) return true;
+    }
+    for (unsigned i = o->leaf_count; i-- > 0 && is_of_bits(&o->leaves[i]);)
+        if (overlaps_numbers(o, &o->leaves[i])) return true;
     return false;
 }
 
@@ -207,9 +236,10 @@ static void name_pointers(translator *t, object *o) {
 
 static void name_array(translator *t, object *o) {
     unsigned types = o->types_before;
-    for (unsigned i = 0; i < o->leaf_count; i++) types |= o->leaves[i].types_before;
-    integer_type element = array_element_of(t, o, types);
     for (unsigned i = 0; i < o->leaf_count; i++)
+        if (!is_of_bits(&o->leaves[i])) types |= o->leaves[i].types_before;
+    integer_type element = array_element_of(t, o, types);
+    for (unsigned i = 0; i < o->leaf_count && !is_of_bits(&o->leaves[i]); i++)
         while (o->leaves[i].offset % width_of(element)) element = integer_of(width_of(element) / 2, false);
     while (o->size % width_of(element)) element = integer_of(width_of(element) / 2, false);
     o->array_element = element;

@@ -39,7 +39,7 @@ value assignment(translator *t, const node *n, bool is_used) {
     evaluate(t, parts, 2);
     t->at = &n->place;
     value v = as_bool(t, parts[1].value, target->type);
-    if (is_used) v = kept_value(t, v);
+    if (is_used) v = kept_value(t, held_value(t, v, &parts[0].value.storage));
     put(t, parts[0].value.storage, v, &target->place);
     return is_used ? converted_value(t, v, target->type) : (value){.kind = NO_VALUE};
 }
@@ -68,7 +68,7 @@ value compound_assignment(translator *t, const node *n, bool is_used) {
     if (target->type->is_bool) v.integer = number_is_not_zero(t, v.integer, n->computed);
     else v = converted_numbers(t, v, n->computed, target->type, BY_DEFAULT);
     v = converted_value(t, v, target->type);
-    if (is_used) v = kept_value(t, v);
+    if (is_used) v = kept_value(t, held_value(t, v, &parts[0].storage));
     put(t, parts[0].storage, v, &target->place);
     return v;
 }
@@ -99,7 +99,7 @@ value step(translator *t, const node *n, bool is_used) {
     value old = part.value;
     if (is_used && n->is_postfix) old = kept_value(t, old);
     value v = stepped(t, n, old);
-    if (is_used && !n->is_postfix) v = kept_value(t, v);
+    if (is_used && !n->is_postfix) v = kept_value(t, held_value(t, v, &part.storage));
     put(t, part.storage, v, &target->place);
     return n->is_postfix ? old : v;
 }

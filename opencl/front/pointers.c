@@ -99,6 +99,7 @@ pointer load_pointer(translator *t, pointer from, const place *at) {
     const object *o = from.objects[0];
     if (from.count == 1 && o->alias && is_constant(from.offset) && !from.offset.constant) return o->alias->pointer;
     pointer_home h = home_of(t, from, at);
+    learn_fact(t, &h.leaf->is_read);
     if (!h.offset || !are_declared(t, h.leaf)) {
         t->is_incomplete = true;
         return none;
@@ -120,6 +121,14 @@ pointer load_pointer(translator *t, pointer from, const place *at) {
         p.selector = selector;
     }
     return p;
+}
+
+bool is_dead_pointer(pointer at) {
+    const object *o = at.count == 1 ? at.objects[0] : NULL;
+    if (!o || o->space != IN_PRIVATE) return false;
+    if (o->indexes_pointers || !is_constant(at.offset)) return !o->any_pointer.is_read;
+    const pointer_leaf *p = find_pointer(o, (uint64_t)at.offset.constant);
+    return !p || !p->is_read;
 }
 
 // ---- questions ----

@@ -22,6 +22,16 @@ pointer aligned_vector(translator *t, const storage *s) {
     return p;
 }
 
+// A pointer whose offset is worked out once for all numbers of a vector: in a variable, in units of such a number.
+static pointer with_base(translator *t, pointer p, uint64_t size, unsigned count) {
+    linear moving = {0, p.offset.terms, p.offset.count};
+    bool is_simple = !moving.count || (moving.count == 1 && moving.terms->scale == (int64_t)size);
+    if (count == 1 || is_simple || common_factor(moving) % size) return p;
+    integer base = kept(t, cast_to(t, in_units(t, moving, size), LONG));
+    p.offset = plus_scaled(t, constant_offset(p.offset.constant), base, (int64_t)size);
+    return p;
+}
+
 // ---- loading ----
 
 static value get_components(translator *t, const storage *s, pointer p, const place *at) {
@@ -29,6 +39,8 @@ static value get_components(translator *t, const storage *s, pointer p, const pl
     unsigned count = s->components ? s->component_count : (unsigned)s->type->length;
     integer *components = take(&t->pass, count * sizeof *components);
     bool is_alone = s->components && s->type->kind != VECTOR_TYPE, in_variables = is_in_variables(&p);
+    if (count > 1) p = kept_pointer(t, p);
+    p = with_base(t, p, number->size, count);
     for (unsigned i = 0; i < count; i++) {
         unsigned index = s->components ? s->components[i] : i;
         components[i] = load(t, shifted(p, (int64_t)(index * number->size)), core_type(number), s->align, at);
@@ -38,6 +50,7 @@ static value get_components(translator *t, const storage *s, pointer p, const pl
 }
 
 value get(translator *t, storage s, const place *at) {
+    if (s.bits) return integer_value(load_bits(t, s.at, s.bits, s.align, at));
     if (s.components) return get_components(t, &s, s.at, at);
     switch (s.type->kind) {
     case INTEGER_TYPE:
@@ -52,12 +65,13 @@ value get(translator *t, storage s, const place *at) {
 
 // ---- copies of records ----
 
-// Whether a number of a private record is never read, so that no copy of it has to be made.
+// Whether a number of a private record is never read, by no member of a union either, so that no copy of it has to be
+// made.
 static bool is_dead(const pointer *to, uint64_t offset, unsigned width) {
     const object *o = to->count == 1 ? to->objects[0] : NULL;
-    if (!o || o->space != IN_PRIVATE || o->is_array || !is_constant(to->offset)) return false;
-    const leaf *l = find_leaf(o, (uint64_t)to->offset.constant + offset, width);
-    return !l || !l->was_read;
+    if (!o || o->space != IN_PRIVATE || !is_constant(to->offset)) return false;
+    uint64_t first = 8 * ((uint64_t)to->offset.constant + offset);
+    return !is_read_at(o, first, first + 8 * width);
 }
 
 static bool is_private(const pointer *p) {
@@ -78,8 +92,12 @@ static void copy_record(translator *t, storage to, storage from, const place *at
         const number_place *n = &numbers[i];
         pointer target = shifted(to.at, (int64_t)n->offset), source = shifted(from.at, (int64_t)n->offset);
         if (n->type->kind == EVENT_TYPE) continue;
+        if (n->row) {
+            copy_row(t, target, source, n->row, least_align(n->align, to.align), least_align(n->align, from.align), at);
+            continue;
+        }
         if (n->type->kind == POINTER_TYPE) {
-            store_pointer(t, target, load_pointer(t, source, at), at);
+            if (!is_dead_pointer(target)) store_pointer(t, target, load_pointer(t, source, at), at);
             continue;
         }
         bool dead = is_dead(&to.at, n->offset, n->type->width);
@@ -99,6 +117,7 @@ static void put_components(translator *t, storage s, pointer p, value v, const p
         v = kept_value(t, v);
         p = kept_pointer(t, p);
     }
+    p = with_base(t, p, number->size, count);
     for (unsigned i = 0; i < count; i++) {
         unsigned index = s.components ? s.components[i] : i;
         integer one = v.kind == VECTOR_VALUE ? v.components[i] : v.integer;
@@ -106,7 +125,15 @@ static void put_components(translator *t, storage s, pointer p, value v, const p
     }
 }
 
+value held_value(translator *t, value v, const storage *s) {
+    return s->bits ? integer_value(lowest_bits(t, v.integer, s->bits)) : v;
+}
+
 void put(translator *t, storage s, value v, const place *at) {
+    if (s.bits) {
+        store_bits(t, s.at, s.bits, v.integer, s.align, at);
+        return;
+    }
     if (s.components) {
         put_components(t, s, s.at, v, at);
         return;
@@ -124,15 +151,31 @@ void put(translator *t, storage s, value v, const place *at) {
 
 // ---- initial values ----
 
-void put_zeros(translator *t, pointer p, const type *type, const place *at) {
+static unsigned member_align(const field *f, unsigned known) {
+    unsigned align = (unsigned)f->align, wanted = (unsigned)f->type->align;
+    if (known && known < align) align = known;
+    return align < wanted ? align : 0;
+}
+
+storage member_of(const storage *s, const field *f) {
+    unsigned known = s->align ? s->align : s->type->align < 8 ? (unsigned)s->type->align : 0;
+    storage member = whole(shifted(s->at, (int64_t)f->offset), f->type);
+    member.align = f->row ? known : member_align(f, known);
+    member.bits = f->row ? f : NULL;
+    return member;
+}
+
+static void put_zeros(translator *t, const storage *s, const place *at) {
     unsigned count;
-    number_place *numbers = numbers_in(t, type, at, &count);
+    number_place *numbers = numbers_in(t, s->type, at, &count);
     for (unsigned i = 0; i < count; i++) {
         const number_place *n = &numbers[i];
-        pointer one = shifted(p, (int64_t)n->offset);
-        if (n->type->kind == POINTER_TYPE) store_pointer(t, one, pointer_to(t, t->null), at);
+        pointer one = shifted(s->at, (int64_t)n->offset);
+        unsigned align = least_align(n->align, s->align);
+        if (n->row) put_zero_row(t, one, n->row, align, at);
+        else if (n->type->kind == POINTER_TYPE) store_pointer(t, one, pointer_to(t, t->null), at);
         else if (n->type->kind != EVENT_TYPE)
-            store(t, one, core_type(n->type), literal(t, 0, core_type(n->type)), n->align, at);
+            store(t, one, core_type(n->type), literal(t, 0, core_type(n->type)), align, at);
     }
 }
 
@@ -143,35 +186,49 @@ static void initialize_text(translator *t, pointer p, const type *type, const no
     }
 }
 
-static void initialize_elements(translator *t, pointer p, const type *type, const node *n, const place *at) {
-    if (n->part_count == 1 && n->parts[0]->kind == STRING_LITERAL && type->of->kind == INTEGER_TYPE) {
-        initialize_text(t, p, type, n->parts[0], at);
+static void initialize_part(translator *t, const storage *s, const node *n, const place *at);
+
+static void initialize_elements(translator *t, const storage *s, const node *n, const place *at) {
+    const type *of = s->type->of;
+    if (n->part_count == 1 && n->parts[0]->kind == STRING_LITERAL && of->kind == INTEGER_TYPE) {
+        initialize_text(t, s->at, s->type, n->parts[0], at);
         return;
     }
-    for (uint64_t i = 0; i < type->length; i++) {
-        pointer one = shifted(p, (int64_t)(i * type->of->size));
-        if (i < n->part_count) initialize(t, one, type->of, n->parts[i], at);
-        else put_zeros(t, one, type->of, at);
+    for (uint64_t i = 0; i < s->type->length; i++) {
+        storage one = whole(shifted(s->at, (int64_t)(i * of->size)), of);
+        one.align = s->align;
+        if (i < n->part_count) initialize_part(t, &one, n->parts[i], at);
+        else put_zeros(t, &one, at);
     }
 }
 
-static void initialize_fields(translator *t, pointer p, const record *r, const node *n, const place *at) {
+// A bit-field's row holds zeros before. (To one without a name nothing is given.)
+static void initialize_fields(translator *t, const storage *s, const node *n, const place *at) {
+    const record *r = s->type->record;
     const field *first = n->field ? n->field : r->fields;
-    unsigned count = r->is_union ? 1 : r->field_count;
+    unsigned count = r->is_union ? 1 : r->field_count, given = 0;
     for (unsigned i = 0; i < count && r->field_count; i++) {
         const field *f = r->is_union ? first : &r->fields[i];
-        pointer one = shifted(p, (int64_t)f->offset);
-        if (i < n->part_count) initialize(t, one, f->type, n->parts[i], at);
-        else put_zeros(t, one, f->type, at);
+        storage one = member_of(s, f);
+        if (f->row && f == f->row->fields) put_zero_row(t, one.at, f->row, one.align, at);
+        if (f->is_bit_field && !*f->name) continue;
+        if (given < n->part_count) initialize_part(t, &one, n->parts[given], at);
+        else if (!f->row) put_zeros(t, &one, at);
+        given++;
     }
+}
+
+static void initialize_part(translator *t, const storage *s, const node *n, const place *at) {
+    go_deeper(t, at);
+    if (n->kind == INITIALIZER_LIST && s->type->kind == ARRAY_TYPE) initialize_elements(t, s, n, at);
+    else if (n->kind == INITIALIZER_LIST && s->type->kind == RECORD_TYPE) initialize_fields(t, s, n, at);
+    else if (n->kind == IMPLICIT_VALUE && !s->bits) put_zeros(t, s, at);
+    else if (n->kind == STRING_LITERAL && s->type->kind == ARRAY_TYPE) initialize_text(t, s->at, s->type, n, at);
+    else put(t, *s, evaluate_value(t, n), at);
+    t->depth--;
 }
 
 void initialize(translator *t, pointer p, const type *type, const node *n, const place *at) {
-    go_deeper(t, at);
-    if (n->kind == INITIALIZER_LIST && type->kind == ARRAY_TYPE) initialize_elements(t, p, type, n, at);
-    else if (n->kind == INITIALIZER_LIST && type->kind == RECORD_TYPE) initialize_fields(t, p, type->record, n, at);
-    else if (n->kind == IMPLICIT_VALUE) put_zeros(t, p, type, at);
-    else if (n->kind == STRING_LITERAL && type->kind == ARRAY_TYPE) initialize_text(t, p, type, n, at);
-    else put(t, whole(p, type), evaluate_value(t, n), at);
-    t->depth--;
+    storage s = whole(p, type);
+    initialize_part(t, &s, n, at);
 }

@@ -25,14 +25,29 @@ static void fill_elements(translator *t, memory m, uint64_t offset, const type *
         for (unsigned i = 0; i < n->part_count; i++) fill(t, m, offset + i * type->of->size, type->of, n->parts[i]);
 }
 
+static void fill_bits(translator *t, memory m, uint64_t offset, const field *f, const node *n) {
+    integer v = evaluate_value(t, n).integer;
+    if (!v.is_literal) refuse_at(t, &n->place, "Clsim has no initial value of constant memory that isn't known here");
+    uint64_t bits = f->type->is_bool ? v.value != 0 : v.value, first = 8 * offset + f->bit;
+    for (uint64_t bit = first; bit < first + f->bits && bit / 8 < m.size; bit++)
+        m.bytes[bit / 8] |= (unsigned char)((bits >> (bit - first) & 1) << bit % 8);
+}
+
+static void fill_field(translator *t, memory m, uint64_t offset, const field *f, const node *n) {
+    if (f->row) fill_bits(t, m, offset + f->offset, f, n);
+    else fill(t, m, offset + f->offset, f->type, n);
+}
+
+// (to a bit-field without a name nothing is given)
 static void fill_fields(translator *t, memory m, uint64_t offset, const record *r, const node *n) {
     if (r->is_union && r->field_count) {
-        const field *f = n->field ? n->field : r->fields;
-        if (n->part_count) fill(t, m, offset + f->offset, f->type, n->parts[0]);
+        if (n->part_count) fill_field(t, m, offset, n->field ? n->field : r->fields, n->parts[0]);
         return;
     }
-    for (unsigned i = 0; i < n->part_count && i < r->field_count; i++)
-        fill(t, m, offset + r->fields[i].offset, r->fields[i].type, n->parts[i]);
+    for (unsigned i = 0, given = 0; given < n->part_count && i < r->field_count; i++) {
+        const field *f = &r->fields[i];
+        if (!f->is_bit_field || *f->name) fill_field(t, m, offset, f, n->parts[given++]);
+    }
 }
 
 static void fill_value(translator *t, memory m, uint64_t offset, const type *type, const node *n) {
@@ -97,6 +112,7 @@ static object *table_object(translator *t, const node *n, const char *name, cons
 object *table_of(translator *t, const node *declaration) {
     if (declaration->type->space != CONSTANT_SPACE)
         refuse_at(t, &declaration->place, "a variable outside of functions stands in constant memory");
+    judge_attributes(t, declaration);
     if (!declaration->part_count) refuse_at(t, &declaration->place, "Clsim has no constant memory without a value");
     return table_object(t, declaration, declaration->name, declaration->parts[0]);
 }

@@ -35,6 +35,14 @@ void refuse_at(translator *t, const place *at, const char *format, ...) {
     longjmp(t->stop, 1);
 }
 
+void judge_attributes(translator *t, const node *n) {
+    bool is_function = n->kind == FUNCTION_DECLARATION;
+    for (const attribute *a = n->attributes; a; a = a->next)
+        if (a->kind == UNKNOWN_ATTRIBUTE)
+            refuse_at(t, a->place.line ? &a->place : &n->place, "Clsim doesn't know the attribute %s", a->name);
+    for (unsigned i = 0; is_function && i < n->part_count; i++) judge_attributes(t, n->parts[i]);
+}
+
 void add_note(translator *t, const char *text) {
     note **end = &t->notes;
     for (; *end; end = &(*end)->next)

@@ -56,8 +56,9 @@ static unsigned bucket_of(const char *s, size_t n) {
 
 static uint64_t fixed_align_of(const type *t) { return ((const own_type *)t)->fixed_align; }
 
-// Sizes of what is made of other types.
+// Sizes of what is made of other types. (A record may have become complete since the type of an element was made.)
 static void settle(type *t) {
+    if (t->kind == ARRAY_TYPE) settle((type *)t->of);
     if (t->kind == RECORD_TYPE && t->record) {
         bool is_laid_out = t->record->is_complete && !t->record->unknown_attribute;
         t->size = is_laid_out ? t->record->size : 0;
@@ -219,11 +220,11 @@ const type *declare_enumeration(types *t, const enumeration_form *form) {
     return own;
 }
 
-void declare_type_name(types *t, const char *name, const type *of, uint64_t align) {
-    type *own = copy_type(t, of);
+void declare_type_name(types *t, const char *name, const type *of, uint64_t align, const char *unknown_attribute) {
+    type *own = unknown_attribute ? make_other(t, unknown_attribute) : copy_type(t, of);
     if (align) ((own_type *)own)->fixed_align = align;
     settle(own);
-    own->name = name;
+    if (!unknown_attribute) own->name = name;
     add_meaning(t, (meaning){.name = name, .type = own});
 }
 
@@ -518,7 +519,7 @@ static const type *read_again(types *t, const char *written, size_t written_leng
     if (!found && plain) found = read_text(t, plain, plain_length);
     if (!found) return make_other(t, name);
     type *own = copy_type(t, found);
-    own->name = name;
+    if (own->kind != OTHER_TYPE) own->name = name; // (that of any other one says what isn't known)
     return own;
 }
 
@@ -554,24 +555,88 @@ static bool has_layout(const type *t) {
                                     : t->size > 0;
 }
 
+// Where the members that are laid out so far end: behind so many bytes, the last one of which has free bits.
+typedef struct {
+    uint64_t bytes;
+    unsigned free;
+} layout_end;
+
+static layout_end place_field(const record_form *form, const field_form *given, field *f, layout_end end) {
+    f->align = align_of_field(form, given);
+    f->offset = rounded_up(end.bytes, f->align);
+    return (layout_end){f->offset + f->type->size, 0};
+}
+
+// What a bit-field is aligned to, in bits: 1 where it is packed. One of no bits aligns what follows it, packed or not.
+static uint64_t align_of_bits(const record_form *form, const field_form *f) {
+    bool is_packed = f->field.bits && (form->is_packed || f->is_packed);
+    uint64_t own = f->field.type->align > f->aligned ? f->field.type->align : f->aligned;
+    uint64_t align = is_packed ? f->aligned : own, most = f->field.bits ? form->most_align : 0;
+    if (most && (is_packed || align > most)) align = own < most ? own : most;
+    return align ? 8 * align : 1;
+}
+
+// A bit-field begins behind the one in front of it, unless it would leave the unit of its type there (System V ABI,
+// "Bit-Fields", with what `packed`, `aligned` and `#pragma pack` do to it in clang and gcc). One without a name leaves
+// the alignment of the record.
+static layout_end place_bits(const record_form *form, const field_form *given, field *f, layout_end end) {
+    uint64_t align = align_of_bits(form, given), bit = 8 * end.bytes - end.free, aligned = 8 * given->aligned;
+    bool leaves_unit = !form->most_align && bit % align + f->bits > 8 * f->type->size;
+    bool is_aligned = aligned && (!form->most_align || given->aligned <= form->most_align);
+    if (!f->bits || leaves_unit) bit = rounded_up(bit, align);
+    else if (is_aligned) bit = rounded_up(bit, aligned);
+    f->align = *f->name && align >= 8 ? align / 8 : 1;
+    f->bit = bit;
+    f->offset = bit / 8;
+    uint64_t last = bit + f->bits, bytes = rounded_up(last, 8) / 8;
+    return (layout_end){bytes, (unsigned)(8 * bytes - last)};
+}
+
+// The bit-fields of a record from one to another as a row.
+static void make_row(types *t, record *r, unsigned first, unsigned end) {
+    bit_row *row = take(t->arena, sizeof *row);
+    const field *last = &r->fields[end - 1];
+    uint64_t begin = r->fields[first].offset, behind = rounded_up(last->bit + last->bits, 8) / 8;
+    *row = (bit_row){&r->fields[first], end - first, begin, behind - begin, 8};
+    while (row->offset % row->width || row->size % row->width || r->align % row->width) row->width /= 2;
+    for (unsigned i = first; i < end; i++) {
+        field *f = &r->fields[i];
+        f->offset = begin;
+        f->bit -= 8 * begin;
+        f->row = row;
+    }
+}
+
+static bool has_bits(const field *f) { return f->is_bit_field && f->bits; }
+
+static void make_rows(types *t, record *r) {
+    for (unsigned i = 0, end; i < r->field_count; i = end) {
+        end = i + 1;
+        if (!has_bits(&r->fields[i])) continue;
+        while (!r->is_union && end < r->field_count && has_bits(&r->fields[end])) end++;
+        make_row(t, r, i, end);
+    }
+}
+
 void lay_out(types *t, record *r, const record_form *form) {
     r->fields = take(t->arena, (form->count + 1) * sizeof *r->fields);
     r->field_count = form->count;
     r->unknown_attribute = form->unknown_attribute;
     r->align = 1;
-    uint64_t end = 0, greatest = 0;
+    layout_end end = {0, 0};
+    uint64_t greatest = 0;
     for (unsigned i = 0; i < form->count; i++) {
         field *f = &r->fields[i];
         *f = form->fields[i].field;
         settle((type *)f->type);
         if (!has_layout(f->type) && !r->unknown_attribute) r->unknown_attribute = f->type->name;
-        f->align = align_of_field(form, &form->fields[i]);
-        f->offset = r->is_union ? 0 : rounded_up(end, f->align);
-        end = f->offset + f->type->size;
-        if (end > greatest) greatest = end;
+        if (r->is_union) end = (layout_end){0, 0};
+        end = (f->is_bit_field ? place_bits : place_field)(form, &form->fields[i], f, end);
+        if (end.bytes > greatest) greatest = end.bytes;
         if (r->align < f->align) r->align = f->align;
     }
     if (r->align < form->aligned) r->align = form->aligned;
     r->size = rounded_up(greatest, r->align);
+    make_rows(t, r);
     r->is_complete = true;
 }

@@ -46,8 +46,8 @@ typedef struct {
 
 // An enumeration is as int where a value is negative, else as unsigned int, with 8 bytes where these don't do.
 const type *declare_enumeration(types *t, const enumeration_form *form);
-// `align` is that of an attribute, else 0.
-void declare_type_name(types *t, const char *name, const type *of, uint64_t align);
+// `align` is that of an attribute, else 0. Of a type with an attribute that isn't known nothing is known.
+void declare_type_name(types *t, const char *name, const type *of, uint64_t align, const char *unknown_attribute);
 
 // Brings sizes up to date where a type was met before its record was complete.
 void settle_types(types *t);

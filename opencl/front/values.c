@@ -292,6 +292,12 @@ static void convert_operands(translator *t, integer *a, integer *b, integer_type
     if (common(a->type, b->type) != wanted) *b = forced(t, *b);
 }
 
+// A literal of 64 bits beside an operand of that very type may be an int, which a work-item puts into a register in less.
+static integer short_literal(translator *t, integer v, const integer *other, integer_type type) {
+    bool is_long = v.is_literal && !other->is_literal && width_of(type) == 8 && v.type == type && other->type == type;
+    return is_long && v.value <= greatest(INT) ? literal(t, v.value, INT) : v;
+}
+
 integer binary(translator *t, operation op, integer a, integer b, integer_type type) {
     bool compares = operators[op].is_comparison;
     uint64_t folded;
@@ -303,6 +309,8 @@ integer binary(translator *t, operation op, integer a, integer b, integer_type t
         return literal(t, folded, compares ? INT : type);
     if (is_trivial(op, &a, &b, &same)) return same;
     convert_operands(t, &a, &b, type);
+    a = short_literal(t, a, &b, type);
+    b = short_literal(t, b, &a, type);
     return operator_text(t, op, a, b, type, compares ? INT : promoted(type));
 }
 

@@ -10,7 +10,7 @@ import subprocess
 
 EXTENSIONS = ("-cl-ext=-all,+cl_khr_byte_addressable_store,+cl_khr_global_int32_base_atomics,"
               "+cl_khr_global_int32_extended_atomics,+cl_khr_local_int32_base_atomics,"
-              "+cl_khr_local_int32_extended_atomics,+cl_khr_fp64")
+              "+cl_khr_local_int32_extended_atomics,+cl_khr_fp64,+__cl_clang_bitfields")
 WORDS = ["-target", "spir64", "-x", "cl", "-cl-std=CL1.2", "-D__OPENCL_VERSION__=120", "-U__IMAGE_SUPPORT__",
          "-Xclang", "-fdeclare-opencl-builtins", "-Xclang", "-finclude-default-header", "-Xclang", EXTENSIONS,
          "-fsyntax-only", "-w", "-fno-color-diagnostics"]

@@ -166,6 +166,13 @@ static void EACH(from_whole)(ulong a) {
     }
 }
 
+static void EACH(from_ints)(uint a) {
+    volatile uint unsigned_a = a;
+    volatile int signed_a = (int)a;
+    EACH(want)("from_uint", a, 0, 0, H(from_uint)(a), (REAL)unsigned_a);
+    EACH(want)("from_int", a, 0, 0, H(from_int)((int)a), (REAL)signed_a);
+}
+
 // The number, rounded already, as it is where it lies from least to largest.
 static long EACH(clamped)(long double x, long double least, long double largest) {
     if (isnan(x)) return 0;
@@ -189,6 +196,12 @@ static void EACH(to_whole)(WORD a) {
     }
 }
 
+static void EACH(to_ints)(WORD a) {
+    long double x = truncl(EACH(value)(a));
+    EACH(want_number)("to_int", a, 0, (ulong)H(to_int)(a), (ulong)EACH(clamped)(x, INT32_MIN, INT32_MAX));
+    EACH(want_number)("to_uint", a, 0, H(to_uint)(a), (ulong)EACH(clamped)(x, 0, UINT32_MAX));
+}
+
 // The bits of a number between -2^65 and 2^65 whose fraction is frequently near a half.
 static WORD EACH(near_whole)(void) {
     int kept = (int)(chance() % 66) - 1;
@@ -206,6 +219,8 @@ static void EACH(test)(unsigned long count) {
         EACH(two_arguments)(a, b);
         EACH(three_arguments)(a, b);
         EACH(from_whole)(EACH(whole_by_chance)());
+        EACH(from_ints)((uint)EACH(whole_by_chance)());
         EACH(to_whole)(i & 1 ? a : EACH(near_whole)());
+        EACH(to_ints)(i & 1 ? a : EACH(near_whole)());
     }
 }

@@ -1,7 +1,8 @@
 // The exact operations: addition to square root, fused multiplication and addition, comparisons, conversions.
 //   exact [COUNT [SEED]]   all arguments of a format of 8 bits, and COUNT arguments by chance of float and double
 //   exact chance COUNT [SEED]   only those by chance
-//   exact all              all arguments of the operations of one float: some 10 minutes
+//   exact all [PART PARTS]      all arguments of the operations of one float, or of PARTS parts the one of this number
+//                               from 0: an hour or two for the whole; the largest error of rsqrt is told, too
 // The last line tells how many answers were wrong; the status is 0 where none was.
 #include "floats.cl"
 #include "tiny.cl"
@@ -67,7 +68,14 @@ static double half_value(uint bits) {
     return exponent ? ldexp(1024 + fraction, (int)exponent - 25) : ldexp(fraction, -24);
 }
 
-// The bits of the half that x is rounded to, found by halving.
+// The bits of the half that x is rounded to; the half `low` is the last that isn't above it.
+static uint half_rounded(int mode, uint sign, uint low, double x) {
+    double below = x - half_value(low), above = half_value(low + 1) - x;
+    bool up = mode == 0 ? above < below || (above == below && low % 2) : below > 0 && mode == (sign ? 3 : 2);
+    return sign | (low + up);
+}
+
+// The same, found by halving.
 static uint half_bits(int mode, double x) {
     if (isnan(x)) return 0x7e00;
     uint sign = signbit(x) ? 0x8000 : 0, low = 0, high = 0x7c00;
@@ -78,9 +86,7 @@ static uint half_bits(int mode, double x) {
         if (half_value(middle) <= x) low = middle;
         else high = middle;
     }
-    double below = x - half_value(low), above = half_value(high) - x;
-    bool up = mode == 0 ? above < below || (above == below && low % 2) : below > 0 && mode == (sign ? 3 : 2);
-    return sign | (up ? high : low);
+    return half_rounded(mode, sign, low, x);
 }
 
 static void test_halved(uint a, ulong b) {
@@ -169,28 +175,67 @@ static double copysign_of_zero(double x, double sign) { return x == 0 ? copysign
 
 // ---- all floats ----
 
+// The largest error of rsqrt in units of the last place, and the bits of its argument.
+static double worst_root;
+static uint worst_root_of;
+
+static void note_root(uint a) {
+    long double root = 1 / sqrtl((long double)host_float_value(a));
+    double error = (double)fabsl((long double)host_float_value(float_rsqrt(a)) - root);
+    error = ldexp(error, 23 - ilogbl(root));
+    if (error > worst_root) {
+        worst_root = error;
+        worst_root_of = a;
+    }
+}
+
+// The last half that isn't above the number of these bits. They ascend from call to call.
+static uint last_half(double x) {
+    static uint low;
+    while (low < 0x7bff && half_value(low + 1) <= x) low++;
+    return low;
+}
+
+static void test_every_half(uint a, uint low) {
+    float x = host_float_value(a);
+    for (int mode = 0; mode < 4; mode++) {
+        uint wanted = 0x7e00, sign = a >> 31 << 15;
+        if (isinf(x)) wanted = sign | 0x7c00;
+        else if (!isnan(x)) wanted = half_rounded(mode, sign, low, fabs((double)x));
+        want_between("half_from_float", a, mode, half_from_float(mode, a), wanted);
+    }
+}
+
 static void test_every(uint a) {
     float x = host_float_value(a);
-    host_float_want("sqrt", a, 0, 0, float_sqrt(a), sqrtf(x));
-    host_float_want("rint", a, 0, 0, float_to_integral(0, a), rintf(x));
-    host_float_want("trunc", a, 0, 0, float_to_integral(1, a), truncf(x));
-    host_float_want("ceil", a, 0, 0, float_to_integral(2, a), ceilf(x));
-    host_float_want("floor", a, 0, 0, float_to_integral(3, a), floorf(x));
-    host_float_want("round", a, 0, 0, float_to_integral(4, a), roundf(x));
+    host_float_one_argument(a);
+    host_float_to_ints(a);
+    host_float_from_ints(a);
+    host_double_from_ints(a);
     host_double_want("double_from_float", a, 0, 0, double_from_float(a), (double)x);
     long whole = x != x ? 0 : x >= 0x1p63f ? INT64_MAX : x <= -0x1p63f ? INT64_MIN : (long)x;
     want_between("to_signed", a, 1, (ulong)float_to_signed(1, a, INT64_MAX), (ulong)whole);
     want_between("float and back", a, 0, float_from_double(0, double_from_float(a)), x != x ? 0x7fc00000 : a);
 }
 
-static int test_all(void) {
-    for (ulong a = 0; a < 0x100000000; a++) test_every((uint)a);
-    printf("exact: all floats, %lu wrong\n", failures);
+static int test_all(ulong part, ulong parts) {
+    ulong first = (part << 31) / parts, end = ((part + 1) << 31) / parts;
+    for (ulong a = first; a < end; a++) {
+        uint low = last_half(host_float_value((uint)a)), negative = (uint)a | 0x80000000;
+        test_every((uint)a);
+        test_every(negative);
+        test_every_half((uint)a, low);
+        test_every_half(negative, low);
+        if (a > 0 && a < 0x7f800000) note_root((uint)a);
+    }
+    printf("exact: all floats, part %lu of %lu, %lu wrong; rsqrt errs by at most %.4f ulp, of %#x\n", part, parts,
+           failures, worst_root, worst_root_of);
     return failures != 0;
 }
 
 int main(int argc, char **argv) {
-    if (argc > 1 && strcmp(argv[1], "all") == 0) return test_all();
+    if (argc > 1 && strcmp(argv[1], "all") == 0)
+        return argc > 3 ? test_all(strtoul(argv[2], NULL, 10), strtoul(argv[3], NULL, 10)) : test_all(0, 1);
     bool is_by_chance = argc > 1 && strcmp(argv[1], "chance") == 0;
     argv += is_by_chance;
     argc -= is_by_chance;

@@ -11,6 +11,7 @@ static void EACH(two_arguments)(uint a, uint b) {
     EACH(want)("add", a, b, 0, H(add)(a, b), tiny_bits(x + y));
     EACH(want)("sub", a, b, 0, H(sub)(a, b), tiny_bits(x - y));
     EACH(want)("mul", a, b, 0, H(mul)(a, b), tiny_bits(x * y));
+    EACH(want)("mul_rare", a, b, 0, H(mul_rare)(a, b), tiny_bits(x * y));
     EACH(want)("div", a, b, 0, H(div)(a, b), tiny_bits(x / y));
     EACH(want)("fmod", a, b, 0, H(fmod)(a, b), tiny_bits(fmod(x, y)));
     EACH(want)("remainder", a, b, 0, H(remainder)(a, b), tiny_bits(copysign_of_zero(remainder(x, y), x)));

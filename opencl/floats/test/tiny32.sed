@@ -1,6 +1,6 @@
 # a format of 8 bits: a sign, 4 bits of exponent, 3 of fraction; in words of 32 bits
 # (what leaves the format at its upper end stays in so much longer words)
-s/upper <<= FRACTION_BITS;/upper <<= FRACTION_BITS;\n        upper \&= 0xffu;/
+s/upper -= ONE_BITS\(.*\);/upper -= ONE_BITS\1;\n                upper \&= 0xffu;/
 s/FORMAT_/tiny32_/g
 s/SIGNED_WORD/int/g
 s/WORD/uint/g
@@ -16,6 +16,9 @@ s/SMALL_BITS/0x20u/g
 s/LARGE_BITS/0x58u/g
 s/REST_MASK/0xfffffffu/g
 s/REST_HALF/0x8000000u/g
+s/ROUNDED_TO_NEXT/0xf8000000u/g
+s/ALL_ONES/0xffffffffu/g
+s/EVEN_MASK/0xfeu/g
 s/CARRY_MASK/0x1fffffffu/g
 s/CARRY_HALF/0x10000000u/g
 s/TOP_SHIFT/28/g

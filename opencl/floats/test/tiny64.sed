@@ -1,6 +1,6 @@
 # a format of 8 bits: a sign, 4 bits of exponent, 3 of fraction; in words of 64 bits
 # (what leaves the format at its upper end stays in so much longer words)
-s/upper <<= FRACTION_BITS;/upper <<= FRACTION_BITS;\n        upper \&= 0xfful;/
+s/upper -= ONE_BITS\(.*\);/upper -= ONE_BITS\1;\n                upper \&= 0xfful;/
 s/FORMAT_/tiny64_/g
 s/SIGNED_WORD/long/g
 s/WORD/ulong/g
@@ -16,6 +16,9 @@ s/SMALL_BITS/0x20ul/g
 s/LARGE_BITS/0x58ul/g
 s/REST_MASK/0xffffffffffffffful/g
 s/REST_HALF/0x800000000000000ul/g
+s/ROUNDED_TO_NEXT/0xf800000000000000ul/g
+s/ALL_ONES/0xfffffffffffffffful/g
+s/EVEN_MASK/0xfeul/g
 s/CARRY_MASK/0x1ffffffffffffffful/g
 s/CARRY_HALF/0x1000000000000000ul/g
 s/TOP_SHIFT/60/g

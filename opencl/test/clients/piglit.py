@@ -1,9 +1,10 @@
 """Piglit's OpenCL programs (Debian: piglit) on the driver, each with what becomes of its tests. By hand:
 
-    OCL_ICD_VENDORS=../../vendors python3 piglit.py LOG [--every N] [FOLDER]..
+    OCL_ICD_VENDORS=../../vendors python3 piglit.py LOG [--every N] [--whole] [FOLDER]..
 
 FOLDER is one of Piglit's, as tests/cl/program/execute; without one all that have OpenCL programs are taken, but for
-those with images. Of each folder's programs every N-th is run. A line for each goes to the end of LOG: `pass`, `fail`
+those with images, and by `--whole` for those with floating-point numbers too. Of each folder's programs every N-th is
+run. A line for each goes to the end of LOG: `pass`, `fail`
 or `skip` as Piglit tells it, how many of its tests pass, and of those that don't what the driver says: `race`,
 `bounds` .., `refused` for a source that isn't built, else `wrong`. Programs that LOG has are left out, so that a run
 may go on. The last lines count.
@@ -19,13 +20,16 @@ PIGLIT = next(iter(glob.glob("/usr/lib/*/piglit")), "/usr/lib/piglit")
 LIMIT = 600
 
 
-def programs(folder):
+def programs(folder, is_whole):
     """Sources without images, and descriptions of tests, by their paths below Piglit's folder."""
     for path in sorted(glob.glob(os.path.join(PIGLIT, folder, "*"))):
         if path.endswith((".cl", ".program_test")) and os.path.isfile(path):
             with open(path, encoding="utf-8", errors="replace") as file:
-                if not re.search(r"image[123]d|sampler_t|read_image|write_image", file.read()):
-                    yield os.path.relpath(path, PIGLIT)
+                text = file.read()
+            has_images = re.search(r"image[123]d|sampler_t|read_image|write_image", text)
+            has_floats = re.search(r"\b(float|double|half)\d*\b", text)
+            if not has_images and not (is_whole and has_floats):
+                yield os.path.relpath(path, PIGLIT)
 
 
 def all_folders():
@@ -62,6 +66,7 @@ def main():
     parser = argparse.ArgumentParser()
     parser.add_argument("log")
     parser.add_argument("--every", type=int, default=1)
+    parser.add_argument("--whole", action="store_true")
     parser.add_argument("folders", nargs="*")
     words = parser.parse_intermixed_args()
     log, lines = words.log, []
@@ -69,7 +74,8 @@ def main():
         with open(log, encoding="utf-8") as file:
             lines = file.read().splitlines()
     known = {line.split()[0] for line in lines}
-    for program in [p for folder in words.folders or all_folders() for p in list(programs(folder))[::words.every]]:
+    folders = words.folders or all_folders()
+    for program in [p for folder in folders for p in list(programs(folder, words.whole))[::words.every]]:
         if program not in known:
             lines.append(tried(program))
             with open(log, "a", encoding="utf-8") as file:

@@ -1,0 +1,3 @@
+pub mod Layers
+pub mod Threes
+pub mod Runs
