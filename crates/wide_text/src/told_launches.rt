@@ -164,6 +164,18 @@ impl<'a> Walk<'a> {
             None => Ok(()),
         }
     }
+
+    /// Goes over all commands, with what is told of each launch. An error is out of memory.
+    fn all(&mut self) -> Result<Vec<WideLaunch>, AllocError> {
+        let mut launches = Vec::new(self.alloc);
+        for number in 0..self.performed.commands.len() {
+            if let Some(launch) = self.told(number)? {
+                launches.push(launch)?;
+            }
+            self.pass(number)?;
+        }
+        Ok(launches)
+    }
 }
 
 /// What is told of each launch of a script that wasn't refused, in their order. An error is out of memory. It takes
@@ -179,12 +191,5 @@ pub(crate) fn launches_of(
         sources: Sources::new(alloc, limits, performed.commands, performed.places),
         writes: Writes::new(alloc),
     };
-    let mut launches = Vec::new(alloc);
-    for number in 0..performed.commands.len() {
-        if let Some(launch) = walk.told(number)? {
-            launches.push(launch)?;
-        }
-        walk.pass(number)?;
-    }
-    Ok(launches)
+    walk.all()
 }
