@@ -1,6 +1,6 @@
-//! The law of joining runs: groups that follow one another, joined by themselves and then to the groups below them, come
-//! to what these groups come to joined one by one, where no access of theirs conflicts with a lower group's. Each law is
-//! the contract of a function that does nothing.
+//! The law of joining runs: groups that follow one another, joined by themselves and then to the groups below them,
+//! come to what these groups come to joined one by one, where no access of theirs conflicts with a lower group's.
+//! Each law is the contract of a function that does nothing.
 //!
 //! So the results of some groups can be joined beside those of others, and the joins put together in the order of the
 //! groups. Where an access conflicts, the groups are to be joined one by one. The crate speaks of definitions alone.
