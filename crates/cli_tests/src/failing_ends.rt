@@ -64,8 +64,8 @@ impl io::Read for Failing {
     }
 }
 
-/// A script, the text of its replies, how many bytes of that stand in front of the reply to its launch, where it has one,
-/// and what the replies come to.
+/// A script, the text of its replies, how many bytes of that stand in front of the reply to its launch, where it has
+/// one, and what the replies come to.
 struct Row {
     script: &'static str,
     replies: &'static str,
