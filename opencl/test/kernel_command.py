@@ -431,9 +431,9 @@ def beside(bench):
     for folder in ["bin", "a bin"]:
         os.makedirs(command.path(folder))
         for name, path in [("clsim", bench.clsim), ("clsim-kernel", bench.path("clsim-kernel"))]:
-            with open(path, "rb") as file, open(command.path(f"{folder}/{name}"), "wb") as copy:
-                copy.write(file.read())
-            os.chmod(command.path(f"{folder}/{name}"), 0o755)
+            # (by a process of its own: a file that this one writes is open in what other threads start meanwhile, and
+            # can't be executed)
+            bench.run(["cp", path, command.path(f"{folder}/{name}")])
         told = bench.run(["env", "-C", command.folder, "-u", "CLSIM_SERVE", command.path(f"{folder}/clsim-kernel"),
                           "nothing.cl", "f", "--global", "1", "--arg", "a=int[1]"])
         want(told == "clean\n", told)
