@@ -10,8 +10,10 @@ which hold their texts. The result of each script is a line of JSON, in a file o
 there whole or not at all. SECONDS and MEMORY (MB, 0 for no limit) are of each script, the others the options of the
 program (BUDGET is - for its own); with WIDEN, `widen` and not -, it also asks for which bytes the replies hold.
 
-A small script takes a millisecond. So the worker loads few modules, starts programs without copying itself, with words
-and files that are the same for all scripts, and makes no file for a script. SIGINT, SIGTERM and SIGHUP end it and the
+A small script takes a millisecond. So the worker has bin/farm_run run the scripts where that is there and can be
+started (tools/farming/run.c), and sees to what isn't clean. Without it, the worker does all: it loads few modules,
+starts programs without copying itself, with words and files that are the same for all scripts, and makes no file for a
+script. SIGINT, SIGTERM and SIGHUP end it and the
 program that it runs, and so does the end of what started it; the script that was running then has no result.
 Status 0, 130 where it was ended so, or 2 with a line on standard error.
 """
@@ -25,13 +27,15 @@ PASSED, ORDERED, FAULTY = "clean", "ordered", "fault"
 # How often it is looked how a program does, and how long one has run when its memory is looked at first.
 LOOK, FIRST_LOOK = 0.05, 0.02
 # The bytes of a line of a queue, which has the words of up to so many scripts, and the number of the pipe that is held.
-WIDE_LINE, GROUP, HELD = 448, 8, 3
+WIDE_LINE, GROUP, HELD = 896, 16, 3
 # How long results wait for others that are written with them; where a script takes longer, they don't wait for it.
 WAIT = 0.02
 # How many bytes of the outputs are read at a time and are kept, and from how many on a text adds to a worker's memory.
 READ, MOST_KEPT, LONG = 1 << 12, 1 << 20, 1 << 16
 # How far the system's two counts of a worker's memory may be apart, in KB.
 SLACK = 1024
+# The program that runs scripts for a worker, and the numbers of its open files.
+RUNNER, GROUPS, ANSWERS, TEXTS, SCRIPT = "./bin/farm_run", 100, 101, 102, 103
 # This machine, as names of files and texts of JSON have it.
 HOST = "".join(it if it.isalnum() or it in "-." else "_" for it in os.uname().nodename)
 
@@ -242,10 +246,83 @@ class Program:
             parts.append(os.pread(output, READ, begin + READ * len(parts)))
         text = b"".join(parts)
         self.begins[output] = begin + len(text)
-        if self.begins[output] > MOST_KEPT:
-            os.ftruncate(output, 0)
-            self.begins[output] = os.lseek(output, 0, os.SEEK_SET)
+        self.drop_said()
         return text
+
+    def said_to(self, output, end):
+        """What is written on an output since the last time up to an end."""
+        begin, self.begins[output] = self.begins[output], end
+        return os.pread(output, end - begin, begin) if end > begin else b""
+
+    def drop_said(self):
+        """Empties outputs of which much was written."""
+        for output, begin in self.begins.items():
+            if begin > MOST_KEPT:
+                os.ftruncate(output, 0)
+                self.begins[output] = os.lseek(output, 0, os.SEEK_SET)
+
+
+class Runner:
+    """Runs groups of scripts by bin/farm_run, which inherits the worker's files. Once it has ended it runs none."""
+
+    def __init__(self, program, texts):
+        self.program, self.left = program, b""
+        (groups, self.asking), (self.answers, answers) = os.pipe(), os.pipe()
+        options = program.options
+        words = [RUNNER, str(options.seconds), str((options.seconds + 1) * (options.workers + 1)),
+                 str(options.memory << 20), *program.judging]
+        moves = [(os.POSIX_SPAWN_DUP2, file, to) for file, to in (
+            (groups, GROUPS), (answers, ANSWERS), (texts, TEXTS), (program.script, SCRIPT))]
+        self.number = os.posix_spawn(RUNNER, words, program.environment, file_actions=moves,
+                                     setsigdef=[signal.SIGPIPE, signal.SIGXFSZ, signal.SIGXCPU])
+        os.close(groups)
+        os.close(answers)
+        program.others.append(self.number)
+        if program.is_over:
+            program.stop()
+        try:
+            self.own = peak_of(self.number) + SLACK // 2
+        except (OSError, ValueError):
+            # (it has ended)
+            self.own = 0
+
+    def line(self):
+        """The next line that is answered, None where it has ended."""
+        while b"\n" not in self.left:
+            self.program.meanwhile()
+            more = os.read(self.answers, READ)
+            if not more:
+                return None
+            self.left += more
+        line, _, self.left = self.left.partition(b"\n")
+        return line.split()
+
+    def run(self, places):
+        """Runs the program on the scripts at these places: what came of each, and what it said on both outputs, as far
+        as the runner goes on."""
+        program = self.program
+        try:
+            os.write(self.asking, b"".join([b"%d:%d " % (at, size) for _, at, size in places]) + b"\n")
+        except BrokenPipeError:
+            # (its end is read)
+            pass
+        for _ in places:
+            line = self.line()
+            if line is None:
+                program.begins = {output: os.lseek(output, 0, os.SEEK_CUR) for output in program.begins}
+                return
+            if line[0] == b"error":
+                raise OSError(int(line[1]), os.strerror(int(line[1])), program.judging[0])
+            status, took, memory, said, told = map(int, line)
+            program.size = -1
+            status = None if status < 0 else os.waitstatus_to_exitcode(status)
+            yield (Run(status, took / 1e9, memory / 1024, memory <= self.own), program.said_to(1, said),
+                   program.said_to(2, told))
+        program.drop_said()
+
+    def end(self):
+        """Has the runner end."""
+        os.close(self.asking)
 
 
 def verdict_of(status, lines):
@@ -335,6 +412,24 @@ def widened(program, status):
         return None
 
 
+def is_clean(program, ran, said, told):
+    """Whether a script is clean with nothing said of it, and nothing more is asked."""
+    return ran.status == 0 and not told and b"\nordered\n" not in said and not program.options.widens
+
+
+def clean(key, ran):
+    """The result of a clean script, as CLEAN tells it."""
+    return key, ran.seconds, ran.memory, "true" if ran.is_at_most else "false"
+
+
+def looked_at(program, key, ran, said, told):
+    """The line of the result of a script that was taken and run."""
+    found = found_of(program, ran, said.decode(errors="replace"), told.decode(errors="replace"))
+    line = code_of_json().dumps({"key": key, **found}) + "\n"
+    program.note_memory()
+    return line
+
+
 def judge(program, key, text):
     """Judges a script: its result, as a line or as what CLEAN tells."""
     program.take(text)
@@ -342,12 +437,9 @@ def judge(program, key, text):
     said, told = program.said(1), program.said(2)
     if len(text) + len(said) > LONG:
         program.note_memory()
-    if ran.status == 0 and not told and b"\nordered\n" not in said and not program.options.widens:
-        return key, ran.seconds, ran.memory, "true" if ran.is_at_most else "false"
-    found = found_of(program, ran, said.decode(errors="replace"), told.decode(errors="replace"))
-    line = code_of_json().dumps({"key": key, **found}) + "\n"
-    program.note_memory()
-    return line
+    if is_clean(program, ran, said, told):
+        return clean(key, ran)
+    return looked_at(program, key, ran, said, told)
 
 
 def found_of(program, ran, said, told):
@@ -374,18 +466,57 @@ def found_of(program, ran, said, told):
 def judge_groups(program, results, texts, groups):
     """Judges groups of scripts, and adds their results, as long as nothing ends the worker."""
     file = os.open(texts, os.O_RDONLY)
+    runner = runner_of(program, file)
     try:
         for group in groups:
-            places = [(key, int(at), int(size)) for key, at, size in (word.split(":") for word in group)]
-            for (key, _, _), text in zip(places, texts_at(file, places)):
-                if not program.is_over:
-                    result = judge(program, key, text)
-                if program.is_over:
-                    return
-                results.add(result)
+            left = [(key, int(at), int(size)) for key, at, size in (word.split(":") for word in group)]
+            if runner:
+                left = left[judge_by(runner, results, file, left) :]
+            judge_group(program, results, file, left)
             results.write()
+            if program.is_over:
+                return
     finally:
+        if runner:
+            runner.end()
         results.write()
+
+
+def runner_of(program, texts):
+    """What runs groups of scripts, None where it isn't there or is of another machine."""
+    try:
+        return Runner(program, texts) if os.access(RUNNER, os.X_OK) else None
+    except OSError:
+        return None
+
+
+def judge_by(runner, results, file, places):
+    """Judges a group of scripts by the runner, then looks at those that aren't clean: how many it has run."""
+    program, count, others = runner.program, 0, []
+    for (ran, said, told), (key, at, size) in zip(runner.run(places), places):
+        count += 1
+        if is_clean(program, ran, said, told):
+            results.add(clean(key, ran))
+        else:
+            others.append((key, at, size, ran, said, told))
+    for key, at, size, ran, said, told in others:
+        if not program.is_over:
+            program.take(text_at(file, at, size))
+            line = looked_at(program, key, ran, said, told)
+        if program.is_over:
+            break
+        results.add(line)
+    return count
+
+
+def judge_group(program, results, file, places):
+    """Judges a group of scripts."""
+    for (key, _, _), text in zip(places, texts_at(file, places) if places else ()):
+        if not program.is_over:
+            result = judge(program, key, text)
+        if program.is_over:
+            return
+        results.add(result)
 
 
 def texts_at(file, places):

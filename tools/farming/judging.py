@@ -77,6 +77,9 @@ def lay_out(folder, scripts, options):
         os.makedirs(os.path.dirname(f"{folder}/{LIBRARY}"), exist_ok=True)
         copy_whole(library, f"{folder}/{LIBRARY}")
     copy_whole(f"{ROOT}/tools/farm_worker.py", f"{folder}/bin/farm_worker.py")
+    runner = runner_here()
+    if runner:
+        copy_whole(runner, f"{folder}/bin/farm_run")
     how = f"{program} {options.seconds} {options.memory} {options.workers} {' '.join(device_words(options))}"
     plan = keep_texts(folder, scripts, hash_of(how.encode() + b"\0"), options)
     plan.write()
@@ -84,6 +87,20 @@ def lay_out(folder, scripts, options):
         if f"scripts/{it}" != plan.texts:
             os.remove(f"{folder}/scripts/{it}")
     return plan
+
+
+def runner_here():
+    """The program that runs scripts for a worker, which a clone builds once; None where it can't be built, and a worker
+    takes longer for each script."""
+    source, built = f"{ROOT}/tools/farming/run.c", f"{ROOT}/tools/farming/out/farm_run"
+    try:
+        if not os.path.isfile(source) or os.stat(source).st_mtime <= os.stat(built).st_mtime:
+            return built if os.path.isfile(built) else None
+    except FileNotFoundError:
+        # (it isn't built yet)
+        pass
+    from building import build  # pylint: disable=import-outside-toplevel
+    return built if build(built) else None
 
 
 def copy_whole(path, to):

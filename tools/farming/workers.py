@@ -8,7 +8,7 @@ from base import words_of, write_whole
 
 # The bytes of a line of the queue, of which a worker always reads a whole one, and how many scripts it has; how many
 # scripts for each worker have one of their own, and the number of the pipe that workers hold.
-WIDE_LINE, GROUP, ALONE, HELD = 448, 8, 16, 3
+WIDE_LINE, GROUP, ALONE, HELD = 896, 16, 16, 3
 # How long what an engine started may take to end, where the farm is ended.
 SECONDS_TO_END = 20
 
