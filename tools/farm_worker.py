@@ -11,11 +11,11 @@ there whole or not at all. SECONDS and MEMORY (MB, 0 for no limit) are of each s
 program (BUDGET is - for its own); with WIDEN, `widen` and not -, it also asks for which bytes the replies hold.
 
 A small script takes a millisecond. So the worker has bin/farm_run run the scripts where that is there and can be
-started (tools/farming/run.c), and sees to what isn't clean. Without it, the worker does all: it loads few modules,
-starts programs without copying itself, with words and files that are the same for all scripts, and makes no file for a
-script. SIGINT, SIGTERM and SIGHUP end it and the
-program that it runs, and so does the end of what started it; the script that was running then has no result.
-Status 0, 130 where it was ended so, or 2 with a line on standard error.
+started (tools/farming/run.c), and sees to what isn't clean. Without it, and where it ends before its time, the worker
+does all: it loads few modules, starts programs without copying itself, with words and files that are the same for all
+scripts, and makes no file for a script. SIGINT, SIGTERM and SIGHUP end it and the program that it runs, and so does the
+end of what started it; the script that was running then has no result. Status 0, 130 where it was ended so, or 2 with a
+line on standard error.
 """
 import os
 import resource
@@ -30,12 +30,13 @@ LOOK, FIRST_LOOK = 0.05, 0.02
 WIDE_LINE, GROUP, HELD = 896, 16, 3
 # How long results wait for others that are written with them; where a script takes longer, they don't wait for it.
 WAIT = 0.02
-# How many bytes of the outputs are read at a time and are kept, and from how many on a text adds to a worker's memory.
-READ, MOST_KEPT, LONG = 1 << 12, 1 << 20, 1 << 16
+# How many bytes of the outputs are read at a time and are kept, from how many on a text adds to a worker's memory, and
+# how many of a line count.
+READ, MOST_KEPT, LONG, MOST_OF_LINE = 1 << 12, 1 << 20, 1 << 16, 4000
 # How far the system's two counts of a worker's memory may be apart, in KB.
 SLACK = 1024
-# The program that runs scripts for a worker, and the numbers of its open files.
-RUNNER, GROUPS, ANSWERS, TEXTS, SCRIPT = "./bin/farm_run", 100, 101, 102, 103
+# The program that runs scripts for a worker.
+RUNNER = "./bin/farm_run"
 # This machine, as names of files and texts of JSON have it.
 HOST = "".join(it if it.isalnum() or it in "-." else "_" for it in os.uname().nodename)
 
@@ -123,15 +124,25 @@ class Program:
         self.path, self.text = f"/proc/{os.getpid()}/fd/{self.script}", b""
         self.judging = ["./bin/clsim", "run", self.path, *options.running]
         sys.stderr = os.fdopen(os.dup(2), "w", buffering=1)
-        for number, file in enumerate((os.open("/dev/null", os.O_RDONLY), *map(os.memfd_create, ("said", "told")))):
-            os.dup2(file, number)
-            os.close(file)
-        self.begins, self.environment = {1: 0, 2: 0}, dict(os.environb)
+        self.put_file(os.open("/dev/null", os.O_RDONLY), 0)
+        self.begins, self.environment = {}, dict(os.environb)
+        self.renew_outputs()
         self.how = {"setpgroup": 0, "setsigdef": sorted(int(it) for it in signal.valid_signals())}
         self.note_memory()
         resource.setrlimit(resource.RLIMIT_CORE, (0, 0))
         self.limit_processor()
         self.heed_signals()
+
+    def put_file(self, file, number):
+        """Gives an open file this number, which programs inherit."""
+        os.dup2(file, number)
+        os.close(file)
+
+    def renew_outputs(self):
+        """Has programs that are started from now on write to outputs that no other one has."""
+        for number, name in ((1, "said"), (2, "told")):
+            self.put_file(os.memfd_create(name), number)
+            self.begins[number] = 0
 
     def heed_signals(self):
         """From now on looks at the program that runs, and stops where a signal says so."""
@@ -223,8 +234,11 @@ class Program:
         self.number = self.spawn(words)
         if self.is_over:
             self.stop()
-        _, ended, used = os.wait4(self.number, 0)
-        self.number = 0
+        # (until it is waited for, no other group has its number: what it left running ends with it)
+        os.waitid(os.P_PID, self.number, os.WEXITED | os.WNOWAIT)
+        os.killpg(self.number, signal.SIGKILL)
+        number, self.number = self.number, 0
+        _, ended, used = os.wait4(number, 0)
         passed = time.monotonic() - self.begun
         # (what the system notes begins with the memory of the one who started it)
         is_small = used.ru_maxrss <= self.own
@@ -252,12 +266,12 @@ class Program:
     def said_to(self, output, end):
         """What is written on an output since the last time up to an end."""
         begin, self.begins[output] = self.begins[output], end
-        return os.pread(output, end - begin, begin) if end > begin else b""
+        return bytes_at(output, begin, end - begin) if end > begin else b""
 
     def drop_said(self):
         """Empties outputs of which much was written."""
         for output, begin in self.begins.items():
-            if begin > MOST_KEPT:
+            if begin >= MOST_KEPT:
                 os.ftruncate(output, 0)
                 self.begins[output] = os.lseek(output, 0, os.SEEK_SET)
 
@@ -268,23 +282,32 @@ class Runner:
     def __init__(self, program, texts):
         self.program, self.left = program, b""
         (groups, self.asking), (self.answers, answers) = os.pipe(), os.pipe()
-        options = program.options
-        words = [RUNNER, str(options.seconds), str((options.seconds + 1) * (options.workers + 1)),
-                 str(options.memory << 20), *program.judging]
-        moves = [(os.POSIX_SPAWN_DUP2, file, to) for file, to in (
-            (groups, GROUPS), (answers, ANSWERS), (texts, TEXTS), (program.script, SCRIPT))]
-        self.number = os.posix_spawn(RUNNER, words, program.environment, file_actions=moves,
-                                     setsigdef=[signal.SIGPIPE, signal.SIGXFSZ, signal.SIGXCPU])
-        os.close(groups)
-        os.close(answers)
+        try:
+            self.number = self.started((groups, answers, texts, program.script))
+        except OSError:
+            self.end()
+            os.close(self.answers)
+            raise
+        finally:
+            os.close(groups)
+            os.close(answers)
         program.others.append(self.number)
         if program.is_over:
             program.stop()
+
+    def started(self, files):
+        """Starts it with these files: its number."""
+        options = self.program.options
+        words = [RUNNER, *map(str, files), str(options.seconds), str((options.seconds + 1) * (options.workers + 1)),
+                 str(options.memory << 20), *self.program.judging]
+        for file in files:
+            os.set_inheritable(file, True)
         try:
-            self.own = peak_of(self.number) + SLACK // 2
-        except (OSError, ValueError):
-            # (it has ended)
-            self.own = 0
+            return os.posix_spawn(RUNNER, words, self.program.environment,
+                                  setsigdef=[signal.SIGPIPE, signal.SIGXFSZ, signal.SIGXCPU])
+        finally:
+            for file in files:
+                os.set_inheritable(file, False)
 
     def line(self):
         """The next line that is answered, None where it has ended."""
@@ -297,26 +320,38 @@ class Runner:
         line, _, self.left = self.left.partition(b"\n")
         return line.split()
 
-    def run(self, places):
-        """Runs the program on the scripts at these places: what came of each, and what it said on both outputs, as far
-        as the runner goes on."""
-        program = self.program
+    def ask(self, places):
+        """Tells it a group of scripts, by their places."""
+        left = b"".join([b"%d:%d " % (at, size) for _, at, size in places]) + b"\n"
         try:
-            os.write(self.asking, b"".join([b"%d:%d " % (at, size) for _, at, size in places]) + b"\n")
+            while left:
+                left = left[os.write(self.asking, left) :]
         except BrokenPipeError:
             # (its end is read)
             pass
-        for _ in places:
+
+    def run(self, places):
+        """Runs the program on the scripts at these places: what came of each, and what it said on both outputs, as far
+        as the runner goes on."""
+        program, at = self.program, 0
+        program.size = -1
+        self.ask(places)
+        while at < len(places):
             line = self.line()
             if line is None:
-                program.begins = {output: os.lseek(output, 0, os.SEEK_CUR) for output in program.begins}
+                # (its program may still write for a moment)
+                program.renew_outputs()
                 return
             if line[0] == b"error":
                 raise OSError(int(line[1]), os.strerror(int(line[1])), program.judging[0])
-            status, took, memory, said, told = map(int, line)
-            program.size = -1
+            if line[0] == b"full":
+                program.drop_said()
+                self.ask(places[at:])
+                continue
+            status, took, memory, own, said, told = map(int, line)
             status = None if status < 0 else os.waitstatus_to_exitcode(status)
-            yield (Run(status, took / 1e9, memory / 1024, memory <= self.own), program.said_to(1, said),
+            at += 1
+            yield (Run(status, took / 1e9, memory / 1024, memory <= own + SLACK // 2), program.said_to(1, said),
                    program.said_to(2, told))
         program.drop_said()
 
@@ -498,7 +533,7 @@ def judge_by(runner, results, file, places):
         if is_clean(program, ran, said, told):
             results.add(clean(key, ran))
         else:
-            others.append((key, at, size, ran, said, told))
+            others.append((key, at, size, ran, cut(said), cut(told)))
     for key, at, size, ran, said, told in others:
         if not program.is_over:
             program.take(text_at(file, at, size))
@@ -507,6 +542,11 @@ def judge_by(runner, results, file, places):
             break
         results.add(line)
     return count
+
+
+def cut(said):
+    """What was said, with the begin of each line: data may be long, and a group's are kept until all have run."""
+    return b"\n".join([line[:MOST_OF_LINE] for line in said.split(b"\n")]) if len(said) > LONG else said
 
 
 def judge_group(program, results, file, places):
@@ -529,14 +569,22 @@ def texts_at(file, places):
 
 
 def text_at(file, at, size):
-    """The bytes of a file at a place, all of them."""
-    text = os.pread(file, size, at)
-    while len(text) < size:
-        more = os.pread(file, size - len(text), at + len(text))
-        if not more:
-            raise OSError(0, "a text is missing", "scripts")
-        text += more
+    """The text at a place of a file."""
+    text = bytes_at(file, at, size)
+    if len(text) < size:
+        raise OSError(0, "a text is missing", "scripts")
     return text
+
+
+def bytes_at(file, at, size):
+    """The bytes at a place of a file, fewer where it ends before."""
+    found = os.pread(file, size, at)
+    while len(found) < size:
+        more = os.pread(file, size - len(found), at + len(found))
+        if not more:
+            break
+        found += more
+    return found
 
 
 def groups_of_queue(queue):
@@ -611,6 +659,8 @@ def work(form, texts, options, words):
 
 def main():
     form, folder, texts = sys.argv[1:4]
+    # (where it is ignored, as by what started the farm, the system doesn't tell how programs ended)
+    signal.signal(signal.SIGCHLD, signal.SIG_DFL)
     os.chdir(folder)
     return work(form, texts, Options(sys.argv[4:10]), sys.argv[10:])
 

@@ -123,6 +123,8 @@ def called(options):
 
 def main():
     options = words_read()
+    # (where it is ignored, the system doesn't tell how what is started here ended)
+    signal.signal(signal.SIGCHLD, signal.SIG_DFL)
     for number in (signal.SIGTERM, signal.SIGHUP):
         # (what is ignored, as behind nohup, stays so)
         if signal.getsignal(number) != signal.SIG_IGN:

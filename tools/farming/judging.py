@@ -77,9 +77,7 @@ def lay_out(folder, scripts, options):
         os.makedirs(os.path.dirname(f"{folder}/{LIBRARY}"), exist_ok=True)
         copy_whole(library, f"{folder}/{LIBRARY}")
     copy_whole(f"{ROOT}/tools/farm_worker.py", f"{folder}/bin/farm_worker.py")
-    runner = runner_here()
-    if runner:
-        copy_whole(runner, f"{folder}/bin/farm_run")
+    put_runner(folder, options)
     how = f"{program} {options.seconds} {options.memory} {options.workers} {' '.join(device_words(options))}"
     plan = keep_texts(folder, scripts, hash_of(how.encode() + b"\0"), options)
     plan.write()
@@ -89,18 +87,29 @@ def lay_out(folder, scripts, options):
     return plan
 
 
-def runner_here():
-    """The program that runs scripts for a worker, which a clone builds once; None where it can't be built, and a worker
-    takes longer for each script."""
-    source, built = f"{ROOT}/tools/farming/run.c", f"{ROOT}/tools/farming/out/farm_run"
-    try:
-        if not os.path.isfile(source) or os.stat(source).st_mtime <= os.stat(built).st_mtime:
-            return built if os.path.isfile(built) else None
-    except FileNotFoundError:
-        # (it isn't built yet)
-        pass
+def put_runner(folder, options):
+    """Puts what runs scripts for a worker into the folder of results; where it isn't there, says why, and leaves none
+    of an earlier farm. (Over ssh no host is given it.)"""
+    built, inside = f"{ROOT}/tools/farming/out/farm_run", f"{folder}/bin/farm_run"
+    why = why_no_runner(built)
+    if why is None:
+        copy_whole(built, inside)
+        return
+    if os.path.exists(inside):
+        os.remove(inside)
+    if not options.hosts:
+        print(f"{NAME}: workers run the scripts themselves, which takes longer: {why}", file=sys.stderr)
+
+
+def why_no_runner(built):
+    """Why what runs scripts for a worker isn't there, None where it is: a clone builds it once."""
+    source = f"{ROOT}/tools/farming/run.c"
+    if not os.path.isfile(source):
+        return None if os.path.isfile(built) else f"no {built}"
+    if os.path.isfile(built) and os.stat(source).st_mtime <= os.stat(built).st_mtime:
+        return None
     from building import build  # pylint: disable=import-outside-toplevel
-    return built if build(built) else None
+    return build(built)
 
 
 def copy_whole(path, to):
