@@ -280,7 +280,7 @@ class Runner:
     """Runs groups of scripts by bin/farm_run, which inherits the worker's files. Once it has ended it runs none."""
 
     def __init__(self, program, texts):
-        self.program, self.left = program, b""
+        self.program, self.left, self.own = program, b"", None
         (groups, self.asking), (self.answers, answers) = os.pipe(), os.pipe()
         try:
             self.number = self.started((groups, answers, texts, program.script))
@@ -348,12 +348,23 @@ class Runner:
                 program.drop_said()
                 self.ask(places[at:])
                 continue
-            status, took, memory, own, said, told = map(int, line)
+            status, took, memory, said, told = map(int, line)
             status = None if status < 0 else os.waitstatus_to_exitcode(status)
             at += 1
-            yield (Run(status, took / 1e9, memory / 1024, memory <= own + SLACK // 2), program.said_to(1, said),
+            if self.own is None:
+                self.note_memory()
+            yield (Run(status, took / 1e9, memory / 1024, memory <= self.own), program.said_to(1, said),
                    program.said_to(2, told))
         program.drop_said()
+
+    def note_memory(self):
+        """Notes the most memory of the runner itself once it has run a script, from which on the system counts that of
+        a program."""
+        try:
+            self.own = peak_of(self.number) + SLACK // 2
+        except (OSError, ValueError):
+            # (it has ended)
+            self.own = 0
 
     def end(self):
         """Has the runner end."""

@@ -9,10 +9,10 @@
 // running there is ended. The first four words are the numbers of open files:
 //
 //   GROUPS   the scripts, a line for each group: AT:SIZE of each, its place in TEXTS, with a blank behind it
-//   ANSWERS  a line for each run, `STATUS NANOSECONDS KILOBYTES OWN SAID TOLD`: its status as wait gives it, or -1 for
-//            one that took too long; its most memory, which is at least that of this program, and the most of this one;
-//            and where standard output and standard error end then. Or `error NUMBER` where it can't be started. Or
-//            `full` in place of all others of a group, where so much was said that it has to be taken away first
+//   ANSWERS  a line for each run, `STATUS NANOSECONDS KILOBYTES SAID TOLD`: its status as wait gives it, or -1 for one
+//            that took too long; its most memory, which is at least what this program has; and where standard output
+//            and standard error end then. Or `error NUMBER` where it can't be started. Or `full` in place of all others
+//            of a group, where so much was said that it has to be taken away first
 //   TEXTS    the texts of the scripts
 //   SCRIPT   the file that the program reads as its script
 //
@@ -211,7 +211,7 @@ static int ended(long long until, struct rusage *used) {
 // Runs the program on the script that was taken, and answers. Whether there is room for what another run says.
 static bool run(void) {
     char line[ANSWER_ROOM];
-    struct rusage used = {0}, own = {0};
+    struct rusage used = {0};
     long long begun = now();
     pid_t number = start();
     if (number == 0) {
@@ -222,11 +222,10 @@ static bool run(void) {
     running = number;
     if (is_over) kill(-number, SIGKILL);
     int status = ended(begun + given.most, &used);
-    getrusage(RUSAGE_SELF, &own);
     off_t said = lseek(STDOUT_FILENO, 0, SEEK_CUR), told = lseek(STDERR_FILENO, 0, SEEK_CUR);
     if (said < 0 || told < 0) exit(FAILED);
-    snprintf(line, sizeof line, "%d %lld %ld %ld %lld %lld\n", status, now() - begun, used.ru_maxrss, own.ru_maxrss,
-             (long long)said, (long long)told);
+    snprintf(line, sizeof line, "%d %lld %ld %lld %lld\n", status, now() - begun, used.ru_maxrss, (long long)said,
+             (long long)told);
     // (what a signal ended meanwhile has no result)
     if (!is_over) answer(line);
     return said < FULL && told < FULL;
