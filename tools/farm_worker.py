@@ -24,8 +24,9 @@ import sys
 import time
 
 PASSED, ORDERED, FAULTY = "clean", "ordered", "fault"
-# How often it is looked how a program does, and how long one has run when its memory is looked at first.
-LOOK, FIRST_LOOK = 0.05, 0.02
+# How often it is looked how a program does, how long one has run when it is looked at first, and how often a worker is
+# woken else: rarely, as a wake takes a part of what a small script does, and a busy machine has many to a script.
+LOOK, FIRST_LOOK, REST = 0.05, 0.02, 1.0
 # The bytes of a line of a queue, which has the words of up to so many scripts, and the number of the pipe that is held.
 WIDE_LINE, GROUP, HELD = 896, 16, 3
 # How long results wait for others that are written with them; where a script takes longer, they don't wait for it.
@@ -147,7 +148,7 @@ class Program:
     def heed_signals(self):
         """From now on looks at the program that runs, and stops where a signal says so."""
         signal.signal(signal.SIGALRM, self.look)
-        signal.setitimer(signal.ITIMER_REAL, LOOK, LOOK)
+        signal.setitimer(signal.ITIMER_REAL, REST, REST)
         for number in (signal.SIGINT, signal.SIGTERM, signal.SIGHUP):
             # (what is ignored, as of a farm behind nohup, stays so)
             if signal.getsignal(number) != signal.SIG_IGN:
@@ -160,7 +161,7 @@ class Program:
         if time.process_time() > self.most_used:
             self.limit_processor()
         passed = time.monotonic() - self.begun
-        if not self.number or passed < FIRST_LOOK or self.is_over:
+        if not self.number or self.is_over:
             return
         try:
             if passed >= self.options.seconds:
@@ -231,6 +232,7 @@ class Program:
         """Runs the program with these words. What it says then stands behind what was said before."""
         self.late, self.peak = False, 0
         self.begun = time.monotonic()
+        signal.setitimer(signal.ITIMER_REAL, FIRST_LOOK, LOOK)
         self.number = self.spawn(words)
         if self.is_over:
             self.stop()
@@ -239,6 +241,7 @@ class Program:
         os.killpg(self.number, signal.SIGKILL)
         number, self.number = self.number, 0
         _, ended, used = os.wait4(number, 0)
+        signal.setitimer(signal.ITIMER_REAL, REST, REST)
         passed = time.monotonic() - self.begun
         # (what the system notes begins with the memory of the one who started it)
         is_small = used.ru_maxrss <= self.own
@@ -280,7 +283,7 @@ class Runner:
     """Runs groups of scripts by bin/farm_run, which inherits the worker's files. Once it has ended it runs none."""
 
     def __init__(self, program, texts):
-        self.program, self.left, self.own = program, b"", None
+        self.program, self.left, self.lines, self.own = program, b"", [], None
         (groups, self.asking), (self.answers, answers) = os.pipe(), os.pipe()
         try:
             self.number = self.started((groups, answers, texts, program.script))
@@ -311,14 +314,14 @@ class Runner:
 
     def line(self):
         """The next line that is answered, None where it has ended."""
-        while b"\n" not in self.left:
+        while not self.lines:
             self.program.meanwhile()
             more = os.read(self.answers, READ)
             if not more:
                 return None
-            self.left += more
-        line, _, self.left = self.left.partition(b"\n")
-        return line.split()
+            *self.lines, self.left = (self.left + more).split(b"\n")
+            self.lines.reverse()
+        return self.lines.pop().split()
 
     def ask(self, places):
         """Tells it a group of scripts, by their places."""

@@ -76,7 +76,8 @@ class Words(argparse.ArgumentParser):
 def words_read():
     """What the command line asks for."""
     reader = Words(prog=NAME, description=WHAT, epilog=f"{ABOUT}\n\n{STATUS}")
-    forms = reader.add_subparsers(dest="form", required=True, parser_class=Words)
+    # (with the name it asks for no width of a terminal, which takes as long to load as a script to run)
+    forms = reader.add_subparsers(dest="form", required=True, parser_class=Words, prog=NAME)
 
     def form(name, about, said):
         return forms.add_parser(name, prog=f"{NAME} {name}", help=about, description=about + ".", epilog=said)

@@ -43,8 +43,10 @@ enum { ANSWER_ROOM = 160, ANSWERS_ROOM = 4096, GROUP_ROOM = 4096, BLOCK = 1 << 1
 static const long long SECOND = 1000000000, MOST_SECONDS = 1000000000;
 // From how many bytes of an output on a group is left.
 static const off_t FULL = 1 << 20;
-// How long an answer waits for others that are written with it, and how often it is looked at a run, in nanoseconds.
-static const long long WAIT = 20000000, LOOK = 50000000;
+// How often it is looked at a run, in nanoseconds. Answers wait until then for others that are written with them, so
+// that who reads them is woken for several; and a look takes a part of what a small script does, of which a busy
+// machine would have many to a script.
+static const long long LOOK = 200000000;
 
 // What this program was asked for.
 static struct {
@@ -62,7 +64,6 @@ static volatile sig_atomic_t is_over;
 static struct {
     char lines[ANSWERS_ROOM];
     size_t length;
-    long long since;
 } answers;
 
 // What was read of GROUPS and isn't taken yet.
@@ -130,10 +131,8 @@ static void write_answers(void) {
 static void answer(const char *line) {
     size_t length = strlen(line);
     if (answers.length + length > ANSWERS_ROOM) write_answers();
-    if (answers.length == 0) answers.since = now();
     memcpy(answers.lines + answers.length, line, length);
     answers.length += length;
-    if (now() - answers.since > WAIT) write_answers();
 }
 
 // ---- a run ----
