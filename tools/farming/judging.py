@@ -1,5 +1,6 @@
 """A run of a farm: lays out the folder of results, has an engine judge what has no result, and tells how far it is."""
 import os
+import re
 import sys
 import threading
 import time
@@ -131,7 +132,7 @@ def keep_texts(folder, scripts, how, options):
     try:
         with open(new, "wb") as file:
             for script in scripts:
-                text, hashed = bytes_of(script), how.copy()
+                text, hashed = text_of(script, options.program), how.copy()
                 hashed.update(text)
                 key = hashed.hexdigest()
                 if key not in places:
@@ -147,6 +148,21 @@ def keep_texts(folder, scripts, how, options):
         if os.path.exists(new):
             os.remove(new)
         raise
+
+
+# The begin of a script that may name files, and a line that does.
+BY_HAND, NAMES_FILE = b"clsim 3", re.compile(rb"(?m)^[ \t]*program[ \t]+\w+[ \t]+file[ \t]")
+
+
+def text_of(script, program):
+    """The text of a script as it is judged: its own, and of one that names files the plain text, in which these stand.
+    (Where there is none, as without such a file, the script says by its own text what is wrong.)"""
+    text = bytes_of(script)
+    if not text.lstrip().startswith(BY_HAND) or not NAMES_FILE.search(text):
+        return text
+    import subprocess  # pylint: disable=import-outside-toplevel
+    ran = subprocess.run([program, "plain", script], stdin=subprocess.DEVNULL, capture_output=True, check=False)
+    return ran.stdout if ran.returncode == 0 else text
 
 
 def form_of(text):

@@ -19,7 +19,7 @@ class Runner:
 
     def __init__(self, path, program=None, seconds=20, processor=20, memory=0, before=None):
         (groups, self.asking), (self.answers, answers) = os.pipe(), os.pipe()
-        self.texts, self.script, self.said, self.told = (os.memfd_create(it) for it in ("texts", "script", "said", "told"))
+        self.texts, self.script, self.said, self.told = (os.memfd_create("file") for _ in range(4))
         files, self.size, self.left = (groups, answers, self.texts, self.script), 0, b""
         words = program or [*PROGRAM, f"/proc/{os.getpid()}/fd/{self.script}"]
         self.process = subprocess.Popen([path, *map(str, (*files, seconds, processor, memory)), *words], pass_fds=files,
@@ -90,7 +90,8 @@ def none_of(numbers):
 def test_answers(path, check):
     """What each answer says, of groups that come in parts, and of two at once."""
     runner = Runner(path)
-    texts = [b"echo one\n", b"", b"echo two; echo three >&2; exit 7\n", b"kill -9 $$\n", b"#" * 200000 + b"\necho long\n"]
+    texts = [b"echo one\n", b"", b"echo two; echo three >&2; exit 7\n", b"kill -9 $$\n"]
+    texts += [b"#" * 200000 + b"\necho long\n"]
     line = runner.places(texts)
     for at in range(len(line)):
         os.write(runner.asking, line[at : at + 1])
@@ -183,8 +184,8 @@ def test_limits(path, check):
 
 
 def test_memory(path, check):
-    """A program's memory is its own; one that can't be loaded within its limit fails alone; where much is said, the rest
-    of a group is left."""
+    """A program's memory is its own; one that can't be loaded within its limit fails alone; where much is said, the
+    rest of a group is left."""
     runner = Runner(path)
     runner.ask(b"x=0123456789abcdef; for i in 1 2 3 4 5 6 7 8 9 a b c d e f g h i j k; do x=$x$x; done\n", b"exit 0\n")
     large, small = (int(runner.line()[2]) for _ in range(2))
@@ -209,8 +210,8 @@ def test_failures(path, check):
         runner.ask(b"one", b"two")
         check(f"{program} can't be started", [runner.line(), runner.line()], [["error", wanted]] * 2)
         check("the end", runner.end(), (0, ""))
-    for group in (b"x\n", b"1\n", b"1:\n", b"1:2\n", b":1 \n", b"-1:1 \n", b"0:9999999 \n", b"99999999999999999999:1 \n",
-                  b"0:1:1 \n", b"0:99999999999999999999 \n", b"1" * 5000):
+    for group in (b"x\n", b"1\n", b"1:\n", b"1:2\n", b":1 \n", b"-1:1 \n", b"0:9999999 \n", b"0:1:1 \n",
+                  b"99999999999999999999:1 \n", b"0:99999999999999999999 \n", b"1" * 5000):
         runner = Runner(path)
         os.write(runner.asking, group)
         check(f"the group {group[:24]}", runner.end(), (2, ""))
@@ -219,8 +220,9 @@ def test_failures(path, check):
     os.close(runner.asking)
     runner.asking = None
     check("the end of the groups behind one", (runner.statuses(2), runner.end()), (["0", "none"], (0, "")))
-    for words in ([], ["1"] * 7, ["0", "1", "2", "x", "1", "1", "0", "true"], ["0", "1", "2", "77", "1", "1", "0", "true"],
-                  ["0", "1", "2", "2", "1", "", "0", "true"], ["0", "1", "2", "2", "1", "1", "-1", "true"]):
+    for words in ([], ["1"] * 7, ["0", "1", "2", "x", "1", "1", "0", "true"],
+                  ["0", "1", "2", "77", "1", "1", "0", "true"], ["0", "1", "2", "2", "1", "", "0", "true"],
+                  ["0", "1", "2", "2", "1", "1", "-1", "true"]):
         ran = subprocess.run([path, *words], stdin=subprocess.DEVNULL, capture_output=True, check=False)
         check(f"the words {words}", (ran.returncode, ran.stderr), (2, b""))
 
