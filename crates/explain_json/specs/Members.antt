@@ -169,5 +169,5 @@ abbrev pub explanation_data : Explanation → Data → Data
 explanation_data e why =
     object (member (codes "fault") (fault_data e.fault) (member (codes "items") (list_data item_data e.items.items) (member (codes "launch") (launch_data e.launch)
     (member (codes "memory") (or_null memory_data e.memory) (member (codes "schedule") (schedule_data e.schedule) (member (codes "script") (text_data e.script)
-    (member (codes "steps") (list_data step_data e.steps.items) (member (codes "version") (number_data 3)
-    (member (codes "why") why no_members)))))))))
+    (member (codes "source") (text_data e.source) (member (codes "steps") (list_data step_data e.steps.items) (member (codes "version") (number_data 3)
+    (member (codes "why") why no_members))))))))))

@@ -58,6 +58,7 @@ pub fn value_of(alloc: Global, whole: &Explanation) -> Result<Value, AllocError>
         .with_value("why", Ok(why))
         .with("version", &VERSION)
         .with("steps", &whole.steps)
+        .with("source", &whole.source)
         .with("script", &whole.script)
         .with("schedule", &whole.schedule)
         .with("memory", &whole.memory)

@@ -185,7 +185,7 @@ pub record IsText (e : Explanation) (text : List ℕ) : Type 0 where
   pub steps : List ℕ
   pub in_line : IsOneLine title
   pub launched : AreLines (1 + length (parameters_of e.memory)) launch
-  pub are_items : AreItems (string_bytes e.script) e.items.items items
+  pub are_items : AreItems (string_bytes e.source) e.items.items items
   pub are_sentences : AreSentences e.why.items why
   pub are_steps : AreSteps e steps
   pub whole : text ≡ (codes "fault " ++ decimal e.fault.number ++ codes " " ++ title ++ codes "\n") ++ (launch ++ codes "\n") ++ (items ++ codes "\n") ++ (why ++ steps)

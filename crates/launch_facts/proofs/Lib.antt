@@ -1,2 +1,3 @@
+pub mod Placing
 mod Lasts
 mod Told

@@ -1,3 +1,4 @@
 pub mod Facts
 pub mod Commands
 pub mod Parameters
+pub mod Placed

@@ -31,8 +31,9 @@ use Rattle.host_commands.specs.declared.command.Command.TheVariants as command
 use Rattle.item_step.specs.Launches as launches
 use Rattle.launch_facts.specs.Commands.{HasNoSource, IsSource}
 use Rattle.launch_facts.specs.Facts.{TellsMemory, fault_number, named_items, number_name}
+use Rattle.launch_facts.specs.Placed.{IsPlaced, source_name}
 use Rattle.launch_facts.specs.declared.commands.ProgramSource.{ProgramSource}
-use Rattle.simfile.specs.Places.{StandsAt}
+use Rattle.launch_facts.specs.declared.placed.PlacedScript.{PlacedScript}
 use Rattle.simfile.specs.declared.script.CommandPlace.{CommandPlace}
 use Rattle.telling.specs.Judged.{IsShort}
 use Rattle.telling.specs.declared.facts.TellOptions.{TellOptions}
@@ -117,10 +118,11 @@ pub record TellsItems (options : TellOptions) (launch : Launch) (context : Conte
   pub told : AreTold context played.marks.items (told_items f played) e.items.items
   pub tells : TellsPlayed options (group_items (launches.setup_of context.launch.now).range) f played e
 
--- an explanation of a launch of the script of this name, whose buffers have these contents, and of its fault by a
--- schedule
-pub record IsExplained (options : TellOptions) (name : List ℕ) (launch : Launch) (contents : List ℕ → List ℕ) (context : Context) (ticket : ℕ) (place : CommandPlace) (range : Range) (orders : Bool) (f : Fault) (runs : List EventRun) (e : Explanation) : Type 0 where
+-- an explanation of a launch of the script of this name, whose program's source stands in a file of this name and whose
+-- buffers have these contents, and of its fault by a schedule
+pub record IsExplained (options : TellOptions) (name file : List ℕ) (launch : Launch) (contents : List ℕ → List ℕ) (context : Context) (ticket : ℕ) (place : CommandPlace) (range : Range) (orders : Bool) (f : Fault) (runs : List EventRun) (e : Explanation) : Type 0 where
   pub script : string_bytes e.script ≡ utf8_lossy name
+  pub source : string_bytes e.source ≡ utf8_lossy file
   pub launched : TellsLaunch options.budget ticket place range orders e.launch
   pub names : TellsNames context e.launch
   pub faulted : TellsFault f e.fault
@@ -128,16 +130,16 @@ pub record IsExplained (options : TellOptions) (name : List ℕ) (launch : Launc
   pub schedule : string_bytes e.schedule.short ≡ schedule_words runs
   pub items : TellsItems options launch context f runs e
 
--- the source of a program begins in the line of the script behind that of its command
-abbrev pub BeginsBehind : List ℕ → List Command → ProgramSource → Type 0
-BeginsBehind script commands source = (place : CommandPlace) × StandsAt script commands source.program_command place × (source.first_line ≡ place.source_line)
+-- the source of a program begins in the line that the place of its command tells
+abbrev pub BeginsThere : PlacedScript → ProgramSource → Type 0
+BeginsThere script source = (place : CommandPlace) × (slice_get script.places.now source.program_command ≡ Some place) × (source.first_line ≡ place.source_line)
 
 -- the source of a kernel's program, where these commands of a script were done: that of one of them, by the line in
 -- which it begins; an empty one, where none of them made the kernel, or before it its program
-abbrev pub IsSourceOf : List ℕ → List Command → List Bool → List ℕ → ProgramSource → Type 0
+abbrev pub IsSourceOf : PlacedScript → List Command → List Bool → List ℕ → ProgramSource → Type 0
 IsSourceOf script commands done kernel source =
     ((source.text.now ≡ []) × HasNoSource commands done kernel)
-    ⊎ (IsSource commands done kernel source.kernel_command source.program.now source.function.now source.text.now source.program_command × BeginsBehind script commands source)
+    ⊎ (IsSource commands done kernel source.kernel_command source.program.now source.function.now source.text.now source.program_command × BeginsThere script source)
 
 -- the schedule that is told: where it is wanted as it is given, the given one
 abbrev pub IsAsWanted : Bool → List EventRun → List EventRun → Type 0
@@ -145,8 +147,9 @@ IsAsWanted as_given given runs = MatchBool as_given (runs ≡ given) ⊤
 
 -- An explanation of the launch of a ticket of the script of this name, where these commands were done. Its schedule
 -- leads the launch to the fault and isn't longer than the given one, or is that very one; its places are those in the
--- source of the kernel's program, and its line that of the launch's command. The launch runs this kernel's code.
-pub record HasWhole (m : Machine) (options : TellOptions) (name script : List ℕ) (commands : List Command) (done : List Bool) (ticket : ℕ) (f : Fault) (given runs : List EventRun) (e : Explanation) : Type 0 where
+-- source of the kernel's program, with the name of the file in which that stands, and its line is that of the launch's
+-- command in the text by which the script is told. The launch runs this kernel's code.
+pub record HasWhole (m : Machine) (options : TellOptions) (name : List ℕ) (script : PlacedScript) (commands : List Command) (done : List Bool) (ticket : ℕ) (f : Fault) (given runs : List EventRun) (e : Explanation) : Type 0 where
   pub kernel : List ℕ
   pub range : Range
   pub orders : Bool
@@ -159,6 +162,6 @@ pub record HasWhole (m : Machine) (options : TellOptions) (name script : List �
   pub kernel_named : context.kernel.now ≡ kernel
   pub source : IsSourceOf script commands done kernel context.program
   pub place : CommandPlace
-  pub stands : StandsAt script commands ticket place
-  pub explained : IsExplained options name (launch_of (setup_of m (kernel_of m kernel) range) (bytes_of m)) (bytes_of m) context ticket place range orders f runs e
+  pub stands : IsPlaced script ticket place
+  pub explained : IsExplained options name (source_name script name context.program.program_command) (launch_of (setup_of m (kernel_of m kernel) range) (bytes_of m)) (bytes_of m) context ticket place range orders f runs e
   pub schedule : string_bytes e.schedule.given ≡ schedule_words given

@@ -3,7 +3,7 @@
 
 ghost use Rattle.std.specs.Prelude.{◌<◌, vec_len, OnOk};
 
-use clmodel::text::Name;
+use clmodel::text::{Bytes, Name};
 use clmodel::tree::{Expression, Statement};
 use cltypes::Checked;
 use explanation::{Code, NodeKind};
@@ -32,6 +32,8 @@ pub struct Sources<'a> {
     limits: Limits,
     commands: &'a [Command],
     places: &'a [CommandPlace],
+    /// The names of the files that have sources, for the commands in their order
+    files: &'a [Option<Bytes>],
     /// The number of the command that made each program
     programs: Table<usize>,
     kernels: Table<Function>,
@@ -47,6 +49,8 @@ pub struct LaunchSource<'a> {
     kernel: u32,
     text: &'a [u8],
     first_line: usize,
+    /// The name of the file in which it stands, where that is another one than the script's
+    file: Option<&'a [u8]>,
 }
 
 /// Puts a value at a name, over an earlier one. An error is out of memory.
@@ -112,19 +116,29 @@ fn told_node(node: Node<'_>, why: Why) -> (NodeKind, u32) {
     }
 }
 
+/// The name of the file that has the source of the command of a number, where it is another one than the script's.
+fn file_at(files: &[Option<Bytes>], number: usize) -> Option<&[u8]> {
+    match files.get(number) {
+        Some(Some(name)) => Some(name.as_slice()),
+        _ => None,
+    }
+}
+
 impl<'a> Sources<'a> {
-    /// No command was gone over yet.
+    /// No command was gone over yet. The commands stand at these places, and the sources of some in files of these names.
     pub fn new(
         alloc: Global,
         limits: Limits,
         commands: &'a [Command],
         places: &'a [CommandPlace],
+        files: &'a [Option<Bytes>],
     ) -> Self {
         Sources {
             alloc,
             limits,
             commands,
             places,
+            files,
             programs: Table::new(alloc),
             kernels: Table::new(alloc),
             trees: Vec::new(alloc),
@@ -208,6 +222,7 @@ impl<'a> Sources<'a> {
             kernel: found.function.name,
             text: source.as_slice(),
             first_line: place.source_line,
+            file: file_at(self.files, program),
         }))
     }
 }
@@ -222,6 +237,14 @@ impl LaunchSource<'_> {
         match self.checked.tree.names.get(parameter.name as usize) {
             Some(name) => String::from_utf8_lossy(alloc, name.as_slice()),
             None => Ok(String::new(alloc)),
+        }
+    }
+
+    /// The name of the file in which it stands, where that is another one than the script's. An error is out of memory.
+    pub(crate) fn file(&self, alloc: Global) -> Result<Option<String>, AllocError> {
+        match self.file {
+            Some(name) => Ok(Some(String::from_utf8_lossy(alloc, name)?)),
+            None => Ok(None),
         }
     }
 
