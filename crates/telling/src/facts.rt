@@ -363,8 +363,8 @@ struct Head {
     fault: FaultFacts,
 }
 
-/// What is said before the reasons: the names of the script and of its source's file, the launch and the fault. An error
-/// is out of memory.
+/// What is said before the reasons: the names of the script and of its source's file, the launch and the fault. An
+/// error is out of memory.
 fn head_of(
     context: &Context<'_>,
     place: &LaunchTexts<'_>,

@@ -274,7 +274,12 @@ fn program_of<'a>(launched: &LaunchedScript<'a>, kernel: &'a Name) -> ProgramSou
     requires { HasPlaces launched.now.script launched.now.commands.now }
     ensures { IsSourceOf launched.now.script launched.now.commands.now launched.now.done.now kernel.entry.now result }
 {
-    match source_of(launched.commands, launched.script.places, launched.done, kernel) {
+    match source_of(
+        launched.commands,
+        launched.script.places,
+        launched.done,
+        kernel,
+    ) {
         Some(program) => program,
         None => ProgramSource {
             text: &[],

@@ -83,7 +83,11 @@ fn report_of(
 {
     let launches = launches_of(alloc, configuration.limits, performed)?;
     let free = lines_of(alloc, performed.wide.free.as_slice(), performed.told.places)?;
-    let reads = lines_of(alloc, performed.wide.reads.as_slice(), performed.told.places)?;
+    let reads = lines_of(
+        alloc,
+        performed.wide.reads.as_slice(),
+        performed.told.places,
+    )?;
     Ok(WideReport {
         launches,
         clean: is_clean(end),
