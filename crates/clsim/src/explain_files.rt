@@ -75,7 +75,7 @@ fn explain_texts<W: Write>(
 ///
 /// Faults are `Read(First)`, `BadLine`, `OutOfMemory`, and `Write`, after which a beginning of the text was written;
 /// after the others nothing was.
-pub(crate) fn explain_script<R: Written, W: Write>(
+pub(crate) fn explain_script<R: Read + Written, W: Write>(
     alloc: Global,
     name: &str,
     reader: &mut R,
@@ -119,7 +119,7 @@ fn explain_with<W: Write>(
 /// nothing is written.
 ///
 /// Faults are those of `explain_script`.
-pub(crate) fn explain_widely<R: Written, W: Write>(
+pub(crate) fn explain_widely<R: Read + Written, W: Write>(
     alloc: Global,
     name: &str,
     reader: &mut R,
@@ -154,7 +154,7 @@ pub(crate) fn explain_widely<R: Written, W: Write>(
 /// the word `no` and answers false where the schedule doesn't lead to the fault.
 ///
 /// No fault is a `NoSuchKernel`; after `Write` a beginning of the text was written, after the others nothing.
-pub(crate) fn explain_schedule<R: Written, S: Read, W: Write>(
+pub(crate) fn explain_schedule<R: Read + Written, S: Read, W: Write>(
     alloc: Global,
     name: &str,
     reader: &mut R,

@@ -4,7 +4,6 @@
 ghost use Rattle.std.specs.Prelude.{◌≡◌, IfOk, Option};
 ghost use Rattle.clsim.specs.OwnLines.{AreLent, AreOwn, IsLent, begins_at, lines_at, lines_of};
 
-use byte_io::Read;
 use clmodel::text::Bytes;
 use launch_facts::PlacedScript;
 use simfile::script::CommandPlace;
@@ -34,7 +33,7 @@ impl OwnLines {
 }
 
 /// A script that is read as a plain text, and may have been written as another one.
-pub(crate) trait Written: Read {
+pub(crate) trait Written {
     /// That other one, once it was read
     ghost lines: { Self → Option OwnLines };
 
