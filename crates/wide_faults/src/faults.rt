@@ -419,13 +419,7 @@ fn faults_of(
     ensures { IfOk result (λ text. TellsFaults all told.entry.places.now 0 (opening configuration) commands.now text.items) }
 {
     let mut device = Device::new(alloc, configuration);
-    let mut sources = Sources::new(
-        alloc,
-        configuration.limits,
-        commands,
-        told.places,
-        told.files,
-    );
+    let mut sources = Sources::new(alloc, configuration.limits, commands, told);
     told_faults(alloc, &mut device, &mut sources, commands, told.places, all)
 }
 

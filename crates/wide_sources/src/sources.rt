@@ -3,16 +3,16 @@
 
 ghost use Rattle.std.specs.Prelude.{◌<◌, vec_len, OnOk};
 
-use clmodel::text::{Bytes, Name};
+use clmodel::text::Name;
 use clmodel::tree::{Expression, Statement};
 use cltypes::Checked;
 use explanation::{Code, NodeKind};
 use host_commands::build::{NotBuilt, build};
 use host_commands::command::{Command, Reply};
 use host_commands::kernel::parameters_of;
+use launch_facts::PlacedScript;
 use limits::Limits;
 use origins::{Node, origin_of};
-use simfile::script::CommandPlace;
 use source_spots::{Source, code_of, expression_kind, statement_kind, target_kind};
 use spaces::Table;
 use std::alloc::{AllocError, Global};
@@ -31,9 +31,8 @@ pub struct Sources<'a> {
     alloc: Global,
     limits: Limits,
     commands: &'a [Command],
-    places: &'a [CommandPlace],
-    /// The names of the files that have sources, for the commands in their order
-    files: &'a [Option<Bytes>],
+    /// The text by which it is told
+    told: PlacedScript<'a>,
     /// The number of the command that made each program
     programs: Table<usize>,
     kernels: Table<Function>,
@@ -116,29 +115,19 @@ fn told_node(node: Node<'_>, why: Why) -> (NodeKind, u32) {
     }
 }
 
-/// The name of the file that has the source of the command of a number, where it is another one than the script's.
-fn file_at(files: &[Option<Bytes>], number: usize) -> Option<&[u8]> {
-    match files.get(number) {
-        Some(Some(name)) => Some(name.as_slice()),
-        _ => None,
-    }
-}
-
 impl<'a> Sources<'a> {
-    /// No command was gone over yet. The commands stand at these places, and the sources of some in files of these names.
+    /// No command was gone over yet of a script that is told by this text.
     pub fn new(
         alloc: Global,
         limits: Limits,
         commands: &'a [Command],
-        places: &'a [CommandPlace],
-        files: &'a [Option<Bytes>],
+        told: PlacedScript<'a>,
     ) -> Self {
         Sources {
             alloc,
             limits,
             commands,
-            places,
-            files,
+            told,
             programs: Table::new(alloc),
             kernels: Table::new(alloc),
             trees: Vec::new(alloc),
@@ -206,7 +195,7 @@ impl<'a> Sources<'a> {
         let name = function.name.copied(self.alloc)?;
         let (Some(Command::Program { source, .. }), Some(place)) = (
             self.commands.get(program),
-            self.places.get(program),
+            self.told.places.get(program),
         ) else {
             return Ok(None);
         };
@@ -222,7 +211,7 @@ impl<'a> Sources<'a> {
             kernel: found.function.name,
             text: source.as_slice(),
             first_line: place.source_line,
-            file: file_at(self.files, program),
+            file: self.told.file(program),
         }))
     }
 }

@@ -176,13 +176,7 @@ pub(crate) fn launches_of(
     let mut walk = Walk {
         alloc,
         performed,
-        sources: Sources::new(
-            alloc,
-            limits,
-            performed.commands,
-            performed.told.places,
-            performed.told.files,
-        ),
+        sources: Sources::new(alloc, limits, performed.commands, performed.told),
         writes: Writes::new(alloc),
     };
     let mut launches = Vec::new(alloc);
