@@ -8,7 +8,7 @@ use Rattle.explaining.specs.Explaining.{Explains, Unwritten}
 use Rattle.explaining.specs.Whole.{Says}
 use Rattle.explaining.specs.declared.facts.ExplainOptions.{ExplainOptions}
 use Rattle.explaining.specs.declared.facts.Given.{Given}
-use Rattle.launch_facts.specs.declared.placed.PlacedScript.{PlacedScript}
+use Rattle.placed_scripts.specs.declared.placed.PlacedScript.{PlacedScript}
 use Rattle.limits.specs.declared.Configuration.{Configuration}
 use Rattle.simfile.specs.declared.faults.RunFault.{RunFault}
 

@@ -5,7 +5,7 @@ use Rattle.byte_io.proofs.Puts.{stopped_then, wrote_then}
 use Rattle.clsim.specs.Files.{Answered}
 use Rattle.clsim.specs.Wide.{WidelyAnswered, WidelyStopped}
 use Rattle.explaining.specs.declared.facts.ExplainOptions.{ExplainOptions}
-use Rattle.launch_facts.specs.declared.placed.PlacedScript.{PlacedScript}
+use Rattle.placed_scripts.specs.declared.placed.PlacedScript.{PlacedScript}
 
 pub widely :
     (options : ExplainOptions) (name script : List ℕ) (schedule : Option (List ℕ)) (written : Option PlacedScript) (asides : List ℕ) (old mid new : Sink) (answer : Bool) → Answered options name script schedule written old mid answer

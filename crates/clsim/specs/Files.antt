@@ -14,7 +14,7 @@ use Rattle.explaining.specs.declared.facts.ExplainOptions.{ExplainOptions}
 use Rattle.explaining.specs.declared.facts.Format.TheVariants as format
 use Rattle.explaining.specs.declared.facts.Given.{Given}
 use Rattle.exploring.specs.declared.facts.ExploreOptions.{ExploreOptions}
-use Rattle.launch_facts.specs.declared.placed.PlacedScript.{PlacedScript}
+use Rattle.placed_scripts.specs.declared.placed.PlacedScript.{PlacedScript}
 use Rattle.limits.specs.declared.Configuration.{Configuration}
 use Rattle.clsim.specs.OwnLines.{AreLent}
 use Rattle.clsim.specs.declared.own_lines.OwnLines.{OwnLines}

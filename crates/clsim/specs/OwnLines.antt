@@ -1,7 +1,7 @@
 -- A script of version 3 as its user wrote it, by whose lines it is told (own).
 use Rattle.std.specs.Prelude.{◌≡◌, ℕ, ◌+◌, ◌-◌, ◌^◌, Bool, ⊤, Option, None, Some, List, map, min, if◌then◌else◌}
 use Rattle.std.specs.Option.{is_some}
-use Rattle.launch_facts.specs.declared.placed.PlacedScript.{PlacedScript}
+use Rattle.placed_scripts.specs.declared.placed.PlacedScript.{PlacedScript}
 use Rattle.simfile.specs.declared.script.CommandPlace.{CommandPlace}
 use Rattle.written_scripts.specs.declared.places.WrittenPlace.{WrittenPlace}
 use Rattle.clsim.specs.declared.own_lines.OwnLines.{OwnLines}

@@ -8,7 +8,7 @@ use Rattle.explaining.specs.Explaining.{Explains}
 use Rattle.explaining.specs.Whole.{Says}
 use Rattle.explaining.specs.declared.facts.ExplainOptions.{ExplainOptions}
 use Rattle.explaining.specs.declared.facts.Given.{Given}
-use Rattle.launch_facts.specs.declared.placed.PlacedScript.{PlacedScript}
+use Rattle.placed_scripts.specs.declared.placed.PlacedScript.{PlacedScript}
 use Rattle.simfile.specs.Faults.{NoScript}
 use Rattle.simfile.specs.declared.faults.Reader.TheVariants as reader
 use Rattle.simfile.specs.declared.faults.RunFault.{RunFault}

@@ -15,7 +15,7 @@ use crate::passing::put_all;
 use byte_io::{Read, Write};
 use cli::reading::bytes_of;
 use explaining::{ExplainOptions, Given, explain};
-use launch_facts::PlacedScript;
+use placed_scripts::PlacedScript;
 use simfile::faults::{Reader, RunFault};
 use std::alloc::Global;
 use wide_faults::fault_asides;

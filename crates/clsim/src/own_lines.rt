@@ -5,7 +5,7 @@ ghost use Rattle.std.specs.Prelude.{◌≡◌, IfOk, Option};
 ghost use Rattle.clsim.specs.OwnLines.{AreLent, AreOwn, IsLent, begins_at, lines_at, lines_of};
 
 use clmodel::text::Bytes;
-use launch_facts::PlacedScript;
+use placed_scripts::PlacedScript;
 use simfile::script::CommandPlace;
 use std::alloc::{AllocError, Global};
 use written_scripts::WrittenPlace;

@@ -12,7 +12,7 @@ use crate::reporting::{Place, Told};
 use crate::shows::{ReplyStyle, text_shows, written_shows};
 use cli::{Read, ReadFault};
 use clmodel::text::Bytes;
-use launch_facts::PlacedScript;
+use placed_scripts::PlacedScript;
 use showing::Shown;
 use simfile::faults::RunFault;
 use std::alloc::{AllocError, AllocFailed, Global};

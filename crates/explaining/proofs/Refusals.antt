@@ -9,8 +9,8 @@ use Rattle.refused_commands.specs.declared.told.RefusalReason.{RefusalReason}
 use Rattle.refused_commands.specs.declared.told.RefusedCommand.{RefusedCommand}
 use Rattle.host_commands.specs.declared.command.Command.{Command}
 use Rattle.host_commands.specs.declared.command.Refusal.{Refusal}
-use Rattle.launch_facts.specs.Placed.{IsPlaced}
-use Rattle.launch_facts.specs.declared.placed.PlacedScript.{PlacedScript}
+use Rattle.placed_scripts.specs.Placed.{IsPlaced}
+use Rattle.placed_scripts.specs.declared.placed.PlacedScript.{PlacedScript}
 use Rattle.limits.specs.declared.Limits.{Limits}
 use Rattle.simfile.specs.declared.script.CommandPlace.{CommandPlace}
 use Rattle.spaces.specs.Tables.{Table}

@@ -10,8 +10,8 @@ use Rattle.fault_lines.specs.ScheduleFile.{IsScheduleFile}
 use Rattle.host_commands.specs.declared.command.Command.{Command}
 use Rattle.host_commands.specs.declared.command.Refusal.TheVariants as refusal
 use Rattle.host_commands.specs.declared.command.Reply.TheVariants as reply
-use Rattle.launch_facts.specs.Placed.{IsTold}
-use Rattle.launch_facts.specs.declared.placed.PlacedScript.{PlacedScript}
+use Rattle.placed_scripts.specs.Placed.{IsTold}
+use Rattle.placed_scripts.specs.declared.placed.PlacedScript.{PlacedScript}
 use Rattle.simfile.specs.Script.{IsScript}
 use Rattle.simfile.specs.declared.faults.RunFault.{RunFault}
 use Rattle.telling.specs.Judged.{Tells}
@@ -31,7 +31,7 @@ use Rattle.explaining.specs.declared.walks.Walked.TheVariants as walked
 
 pub whole_there :
     (options : ExplainOptions) (name : List ℕ) (script : PlacedScript) (commands : List Command) (ticket : ℕ) (f : Fault) (runs : List EventRun) (m : Machine) (done : List Bool) (r : Result (Option ExplainedCase) RunFault) → Leads (opening options.configuration) (take ticket commands) m done
-    → IfOk r (λ found. IfSome found (λ told. HasWhole m (tell_options options) name script commands done ticket f runs told.schedule told.whole)) → IfOk r (λ found. IfSome found (IsToldThere options name script commands ticket f runs))
+    → IfOk r (λ found. IfSome found (λ told. HasWhole m (tell_options options) name script commands done ticket f runs told.schedule (string_bytes told.source) told.whole)) → IfOk r (λ found. IfSome found (IsToldThere options name script commands ticket f runs))
 whole_there options name script commands ticket f runs m done (Ok (Some told)) led h = record { machine = m; done = done; led = led; whole = h }
 whole_there options name script commands ticket f runs m done (Ok None) led h = tt
 whole_there options name script commands ticket f runs m done (Err why) led h = tt
@@ -54,13 +54,13 @@ says_of options name script written schedule None answer is agrees h = subst (λ
 -- what is told of a launch's fault
 pub tells_faulted :
     (options : ExplainOptions) (name : List ℕ) (script : PlacedScript) (commands : List Command) (done : List Bool) (m : Machine) (ticket : ℕ) (f : Fault) (runs : List EventRun) (o : Option ExplainedCase) (answer : Answer)
-    → RepliesAt commands m ticket (reply.Fault f runs) → Tells m commands ticket f runs (is_some o) → IfSome o (λ told. HasWhole m (tell_options options) name script commands done ticket f runs told.schedule told.whole)
+    → RepliesAt commands m ticket (reply.Fault f runs) → Tells m commands ticket f runs (is_some o) → IfSome o (λ told. HasWhole m (tell_options options) name script commands done ticket f runs told.schedule (string_bytes told.source) told.whole)
     → AnswersTo options.format (codes "no\n") o answer → TellsFaulted options name script commands done m ticket f runs (string_bytes answer.text)
 tells_faulted options name script commands done m ticket f runs o answer at tells has text =
     go o (told_yes m commands ticket at.command f runs (is_some o) at.at (faults at.before m at.command f runs at.replied) tells) has text
   where
     go :
-        (o : Option ExplainedCase) → is_some o ≡ true → IfSome o (λ told. HasWhole m (tell_options options) name script commands done ticket f runs told.schedule told.whole) → AnswersTo options.format (codes "no\n") o answer
+        (o : Option ExplainedCase) → is_some o ≡ true → IfSome o (λ told. HasWhole m (tell_options options) name script commands done ticket f runs told.schedule (string_bytes told.source) told.whole) → AnswersTo options.format (codes "no\n") o answer
         → TellsFaulted options name script commands done m ticket f runs (string_bytes answer.text)
     go None agrees has text = absurd (false≢true agrees)
     go (Some told) agrees has text = record { told = told; whole = has; written = text }

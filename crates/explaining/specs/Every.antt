@@ -3,8 +3,8 @@ use Rattle.std.specs.Prelude.{◌≡◌, ◌||◌, ℕ, Bool, true, false, List,
 use Rattle.device.specs.Machine.{Machine, Step}
 use Rattle.host_commands.specs.declared.command.Command.{Command}
 use Rattle.host_commands.specs.declared.command.Reply.{Reply}
-use Rattle.launch_facts.specs.Placed.{IsPlaced}
-use Rattle.launch_facts.specs.declared.placed.PlacedScript.{PlacedScript}
+use Rattle.placed_scripts.specs.Placed.{IsPlaced}
+use Rattle.placed_scripts.specs.declared.placed.PlacedScript.{PlacedScript}
 use Rattle.simfile.specs.declared.script.CommandPlace.{CommandPlace}
 use Rattle.explaining.specs.Leading.{HadMemory, goes_on, is_done, is_ordered}
 use Rattle.explaining.specs.Whole.{TellsAny, TellsEnd, heading}

@@ -13,8 +13,8 @@ use Rattle.host_commands.specs.declared.command.Refusal.{Refusal}
 use Rattle.host_commands.specs.declared.command.Refusal.TheVariants as refusal
 use Rattle.host_commands.specs.declared.command.Reply.{Reply}
 use Rattle.host_commands.specs.declared.command.Reply.TheVariants as reply
-use Rattle.launch_facts.specs.Placed.{IsPlaced, IsTold}
-use Rattle.launch_facts.specs.declared.placed.PlacedScript.{PlacedScript}
+use Rattle.placed_scripts.specs.Placed.{IsPlaced, IsTold}
+use Rattle.placed_scripts.specs.declared.placed.PlacedScript.{PlacedScript}
 use Rattle.simfile.specs.Script.{IsScript}
 use Rattle.simfile.specs.declared.script.CommandPlace.{CommandPlace}
 use Rattle.telling.specs.Told.{HasWhole}
@@ -35,22 +35,23 @@ use Rattle.explaining.specs.declared.walks.Walked.TheVariants as walked
 abbrev pub tell_options : ExplainOptions → TellOptions
 tell_options options = record { budget = options.configuration.budget; as_given = options.as_given; steps = options.steps }
 
--- the text of an explanation: one that is defined, or the line of JSON of the explanation's value
-abbrev pub IsTextOf : Format → Explanation → List ℕ → Type 0
-IsTextOf format.Text e text = IsText e text
-IsTextOf format.Json e text = IsExplanationLine e text
+-- the text of an explanation whose source stands in a file of this name: one that is defined, or the line of JSON of
+-- the explanation's value
+abbrev pub IsTextOf : Format → Explanation → (source text : List ℕ) → Type 0
+IsTextOf format.Text e source text = IsText e source text
+IsTextOf format.Json e source text = IsExplanationLine e source text
 
 -- a text of what is told, or the word that there is nothing
 abbrev pub AnswersTo : Format → List ℕ → Option ExplainedCase → Answer → Type 0
 AnswersTo f word None answer = string_bytes answer.text ≡ word
-AnswersTo f word (Some told) answer = IsTextOf f told.whole (string_bytes answer.text)
+AnswersTo f word (Some told) answer = IsTextOf f told.whole (string_bytes told.source) (string_bytes answer.text)
 
 -- what is told of a case on a new device, to which the commands before its ticket led
 pub record IsToldThere (options : ExplainOptions) (name : List ℕ) (script : PlacedScript) (commands : List Command) (ticket : ℕ) (f : Fault) (given : List EventRun) (told : ExplainedCase) : Type 0 where
   pub machine : Machine
   pub done : List Bool
   pub led : Leads (opening options.configuration) (take ticket commands) machine done
-  pub whole : HasWhole machine (tell_options options) name script commands done ticket f given told.schedule told.whole
+  pub whole : HasWhole machine (tell_options options) name script commands done ticket f given told.schedule (string_bytes told.source) told.whole
 
 -- what is told of the case of a schedule file
 pub record IsToldOf (options : ExplainOptions) (name script : List ℕ) (written : Option PlacedScript) (schedule : List ℕ) (told : ExplainedCase) : Type 0 where
@@ -66,14 +67,14 @@ pub record IsToldOf (options : ExplainOptions) (name script : List ℕ) (written
 
 -- the text for a schedule file
 abbrev pub SaysOf : ExplainOptions → List ℕ → List ℕ → Option PlacedScript → List ℕ → Bool → List ℕ → Type 0
-SaysOf options name script written schedule true text = (told : ExplainedCase) × IsToldOf options name script written schedule told × IsTextOf options.format told.whole text
+SaysOf options name script written schedule true text = (told : ExplainedCase) × IsToldOf options name script written schedule told × IsTextOf options.format told.whole (string_bytes told.source) text
 SaysOf options name script written schedule false text = text ≡ codes "no\n"
 
 -- a text of a launch's fault, behind which a machine is this one, as it was before, and these commands were done
 pub record TellsFaulted (options : ExplainOptions) (name : List ℕ) (script : PlacedScript) (commands : List Command) (done : List Bool) (machine : Machine) (ticket : ℕ) (f : Fault) (runs : List EventRun) (text : List ℕ) : Type 0 where
   pub told : ExplainedCase
-  pub whole : HasWhole machine (tell_options options) name script commands done ticket f runs told.schedule told.whole
-  pub written : IsTextOf options.format told.whole text
+  pub whole : HasWhole machine (tell_options options) name script commands done ticket f runs told.schedule (string_bytes told.source) told.whole
+  pub written : IsTextOf options.format told.whole (string_bytes told.source) text
 
 -- a text of a refused command, behind which a machine is this one, as it was before; any text where a build was refused
 abbrev pub TellsAnyRefusal : ExplainOptions → List ℕ → PlacedScript → List Command → Machine → ℕ → Refusal → List ℕ → Type 0

@@ -12,8 +12,8 @@ use build_hints::{Refused, refusal_text};
 use device::{BuildFault, Command};
 use explain_json::refused_json;
 use host_commands::build::{NotBuilt, build};
-use launch_facts::PlacedScript;
 use limits::Limits;
+use placed_scripts::PlacedScript;
 use simfile::faults::RunFault;
 use std::alloc::{AllocError, Global};
 

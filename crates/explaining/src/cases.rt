@@ -3,7 +3,7 @@
 
 ghost use Rattle.std.specs.Prelude.{◌≡◌, true, IfErr, IfOk, IfSome, is_some};
 ghost use Rattle.device.specs.Machine.{machine_of};
-ghost use Rattle.launch_facts.specs.Placed.{HasPlaces};
+ghost use Rattle.placed_scripts.specs.Placed.{HasPlaces};
 ghost use Rattle.telling.specs.Judged.{LeadsThere, Tells, Untold};
 ghost use Rattle.telling.specs.Told.{HasWhole};
 ghost use Rattle.explaining.specs.Whole.{tell_options};
@@ -12,7 +12,7 @@ use crate::facts::{ExplainOptions, Given};
 use clmodel::fault::Fault;
 use clmodel::schedule::Schedule;
 use device::{Command, Device};
-use launch_facts::PlacedScript;
+use placed_scripts::PlacedScript;
 use simfile::faults::RunFault;
 use std::alloc::Global;
 use telling::{ExplainedCase, LaunchedScript, TellOptions};
@@ -42,7 +42,7 @@ pub(crate) fn explain_case(
     requires placed { HasPlaces performed.now.told performed.now.commands.now }
     requires known { known ≡ true → LeadsThere (machine_of device.now) performed.now.commands.now ticket fault.now schedule }
     ensures told { IfOk result (λ found. Tells (machine_of device.now) performed.now.commands.now ticket fault.now schedule (is_some found)) }
-    ensures whole { IfOk result (λ found. IfSome found (λ told. HasWhole (machine_of device.now) (tell_options performed.now.options) performed.now.given.name.now performed.now.told performed.now.commands.now performed.now.done.now ticket fault.now schedule told.schedule told.whole)) }
+    ensures whole { IfOk result (λ found. IfSome found (λ told. HasWhole (machine_of device.now) (tell_options performed.now.options) performed.now.given.name.now performed.now.told performed.now.commands.now performed.now.done.now ticket fault.now schedule told.schedule (string_bytes told.source) told.whole)) }
     ensures failed { IfErr result (Untold (machine_of device.now) performed.now.commands.now ticket) }
 {
     let options = performed.options;

@@ -4,7 +4,7 @@
 ghost use Rattle.std.specs.Prelude.{IfOk, IfErr, string_bytes};
 ghost use Rattle.device.specs.Machine.{machine_of};
 ghost use Rattle.host_commands.specs.declared.command.Reply.TheVariants as reply;
-ghost use Rattle.launch_facts.specs.Placed.{HasPlaces};
+ghost use Rattle.placed_scripts.specs.Placed.{HasPlaces};
 ghost use Rattle.simfile.specs.Faults.{NoScript};
 ghost use Rattle.explaining.specs.Leading.{RepliesAt, StandsBehind};
 ghost use Rattle.explaining.specs.Whole.{TellsEnd, TellsFaulted};

@@ -3,7 +3,7 @@
 
 ghost use Rattle.std.specs.Prelude.{◌≡◌, ◌+◌, ◌<◌, [], ◌++◌, Bool, List, Some, true, false, codes, decimal, length, IfOk, IfErr, OnOk, slice_get, string_bytes};
 ghost use Rattle.device.specs.Machine.{machine_of};
-ghost use Rattle.launch_facts.specs.Placed.{HasPlaces, IsTold};
+ghost use Rattle.placed_scripts.specs.Placed.{HasPlaces, IsTold};
 ghost use Rattle.simfile.specs.Faults.{NoScript};
 ghost use Rattle.simfile.specs.Script.{IsScript};
 ghost use Rattle.explaining.specs.Every.{IsEndAdded, TellsCommand};
@@ -17,7 +17,7 @@ use crate::ends::end_text;
 use crate::facts::{ExplainOptions, Format, Given};
 use crate::walks::{Walked, end_of, ordered_by, perform};
 use device::{Command, Device};
-use launch_facts::PlacedScript;
+use placed_scripts::PlacedScript;
 use simfile::copies::copies_of;
 use simfile::faults::RunFault;
 use std::alloc::{AllocError, Global};

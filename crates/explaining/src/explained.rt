@@ -4,7 +4,7 @@
 ghost use Rattle.std.specs.Prelude.{◌≡◌, ◌≤◌, [], IfOk, IfErr, IfSome, OnOk, List, ℕ, length, is_some, string_bytes};
 ghost use Rattle.byte_io.specs.Sink.{Wrote};
 ghost use Rattle.device.specs.Machine.{machine_of, opening};
-ghost use Rattle.launch_facts.specs.Placed.{HasPlaces, IsTold as IsToldIn};
+ghost use Rattle.placed_scripts.specs.Placed.{HasPlaces, IsTold as IsToldIn};
 ghost use Rattle.simfile.specs.Faults.{NoScript};
 ghost use Rattle.simfile.specs.Script.{IsScript};
 ghost use Rattle.explaining.specs.Explaining.{Explained, Explains, Found, IsTold, Unanswered, Unexplained, Unled, Unwritten};
@@ -23,7 +23,7 @@ use clmodel::fault::Fault;
 use clmodel::schedule::Schedule;
 use device::{Command, Device};
 use fault_lines::read;
-use launch_facts::{PlacedScript, told_script};
+use placed_scripts::{PlacedScript, told_script};
 use simfile::copies::copies_of;
 use simfile::faults::RunFault;
 use simfile::script::{Script, read_script};

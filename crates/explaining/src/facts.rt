@@ -1,8 +1,8 @@
 //! What is given, and how it is told.
 #![tactic(auto)]
 
-use launch_facts::PlacedScript;
 use limits::Configuration;
+use placed_scripts::PlacedScript;
 
 /// How an explanation is written.
 #[derive(Clone, Copy, Debug, PartialEq, Eq)]

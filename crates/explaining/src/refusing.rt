@@ -5,7 +5,7 @@ ghost use Rattle.std.specs.Prelude.{◌≡◌, ◌<◌, Some, length, IfOk, IfSo
 ghost use Rattle.device.specs.Machine.{machine_of};
 ghost use Rattle.explain_refusals.specs.Reasons.{Holds};
 ghost use Rattle.host_commands.specs.declared.command.Command.{Command as CommandOf};
-ghost use Rattle.launch_facts.specs.Placed.{HasPlaces};
+ghost use Rattle.placed_scripts.specs.Placed.{HasPlaces};
 ghost use Rattle.explaining.specs.Refusing.{IsRefusalText, TellsRefusal};
 
 use crate::cases::PerformedScript;

@@ -107,8 +107,6 @@ pub struct NamedItem {
 pub struct Explanation {
     /// The script's name, as on the command line
     pub script: String,
-    /// The name of the file in which the source of its program stands: the script's, or that of another file
-    pub source: String,
     pub launch: LaunchFacts,
     pub fault: FaultFacts,
     pub memory: Option<Memory>,

@@ -1,3 +1,2 @@
-pub mod Placing
 mod Lasts
 mod Told

@@ -1,4 +1,3 @@
 pub mod Facts
 pub mod Commands
 pub mod Parameters
-pub mod Placed

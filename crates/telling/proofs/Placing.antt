@@ -4,7 +4,7 @@ use Rattle.std.specs.Prelude.{slice_get}
 use Rattle.host_commands.specs.declared.command.Command.{Command}
 use Rattle.launch_facts.specs.Commands.{IsSource}
 use Rattle.launch_facts.specs.declared.commands.ProgramSource.{ProgramSource}
-use Rattle.launch_facts.specs.declared.placed.PlacedScript.{PlacedScript}
+use Rattle.placed_scripts.specs.declared.placed.PlacedScript.{PlacedScript}
 use Rattle.simfile.specs.declared.script.CommandPlace.{CommandPlace}
 use Rattle.telling.specs.Told.{IsSourceOf}
 

@@ -12,7 +12,7 @@ use Rattle.clmodel.specs.declared.fault.Fault.{Fault}
 use Rattle.clmodel.specs.declared.schedule.EventRun.{EventRun}
 use Rattle.clmodel.specs.declared.setup.Range.{Range}
 use Rattle.device.specs.Kept.{IsCodeOf}
-use Rattle.device.specs.Machine.{Machine, bytes_of, kernel_of, setup_of}
+use Rattle.device.specs.Machine.{Machine, kernel_of, setup_of}
 use Rattle.device.specs.Prepared.{IsPrepared}
 use Rattle.explain_items.specs.Named.{AreToldInside, told_items}
 use Rattle.explain_items.specs.declared.context.Context.{Context}
@@ -23,8 +23,8 @@ use Rattle.fault_play.specs.declared.played.Played.{Played}
 use Rattle.host_commands.specs.declared.command.Command.{Command}
 use Rattle.host_commands.specs.declared.command.Command.TheVariants as command
 use Rattle.item_step.specs.Launches as launches
-use Rattle.launch_facts.specs.Placed.{IsPlaced, source_name}
-use Rattle.launch_facts.specs.declared.placed.PlacedScript.{PlacedScript}
+use Rattle.placed_scripts.specs.Placed.{IsPlaced, source_name}
+use Rattle.placed_scripts.specs.declared.placed.PlacedScript.{PlacedScript}
 use Rattle.simfile.specs.declared.script.CommandPlace.{CommandPlace}
 use Rattle.spaces.specs.Buffers.{bytes_in}
 use Rattle.spaces.specs.Tables.{Table}
@@ -35,15 +35,14 @@ use Rattle.telling.specs.declared.facts.TellOptions.{TellOptions}
 
 -- an explanation of what was played
 pub explained :
-    (e : Explanation) (options : TellOptions) (name file : List ℕ) (launch : Launch) (contents : List ℕ → List ℕ) (context : Context) (ticket : ℕ) (place : CommandPlace) (range : Range) (orders : Bool) (f : Fault) (runs : List EventRun) (facts : ScheduleFacts) (first second : ℕ) (played : Played)
-    → string_bytes e.script ≡ utf8_lossy name → string_bytes e.source ≡ utf8_lossy file → TellsLaunch options.budget ticket place range orders e.launch → TellsNames context e.launch → TellsFault f e.fault → TellsObject contents f e.memory → e.schedule ≡ facts
+    (e : Explanation) (options : TellOptions) (name : List ℕ) (launch : Launch) (contents : List ℕ → List ℕ) (context : Context) (ticket : ℕ) (place : CommandPlace) (range : Range) (orders : Bool) (f : Fault) (runs : List EventRun) (facts : ScheduleFacts) (first second : ℕ) (played : Played)
+    → string_bytes e.script ≡ utf8_lossy name → TellsLaunch options.budget ticket place range orders e.launch → TellsNames context e.launch → TellsFault f e.fault → TellsObject contents f e.memory → e.schedule ≡ facts
     → AreToldInside context played.marks.items (told_items f played) e.items.items → TellsPlayed options (group_items (launches.setup_of context.launch.now).range) f played e
     → string_bytes facts.short ≡ schedule_words runs → AreNamed f first second
     → IsPlayedOut launch (launches.started context.launch.now) (group_items (launches.setup_of context.launch.now).range) (events_of runs) f first second (2 ^ 64 - 1) played
-    → Reaches launch (events_of runs) f → IsExplained options name file launch contents context ticket place range orders f runs e
-explained e options name file launch contents context ticket place range orders f runs facts first second played script source launched names faulted object same items tells words named plays leads = record {
+    → Reaches launch (events_of runs) f → IsExplained options name launch contents context ticket place range orders f runs e
+explained e options name launch contents context ticket place range orders f runs facts first second played script launched names faulted object same items tells words named plays leads = record {
   script = script;
-  source = source;
   launched = launched;
   names = names;
   faulted = faulted;
@@ -62,13 +61,13 @@ explained e options name file launch contents context ticket place range orders 
 
 -- what is told of a prepared launch
 pub whole :
-    (m : Machine) (options : TellOptions) (name : List ℕ) (script : PlacedScript) (commands : List Command) (done : List Bool) (ticket : ℕ) (place : CommandPlace) (kernel : List ℕ) (range : Range) (orders : Bool) (context : Context) (buffers : Table (List ℕ)) (file : List ℕ) (f : Fault) (given runs : List EventRun) (e : Explanation)
+    (m : Machine) (options : TellOptions) (name : List ℕ) (script : PlacedScript) (commands : List Command) (done : List Bool) (ticket : ℕ) (place : CommandPlace) (kernel : List ℕ) (range : Range) (orders : Bool) (context : Context) (buffers : Table (List ℕ)) (source_file : List ℕ) (file : List ℕ) (f : Fault) (given runs : List EventRun) (e : Explanation)
     → slice_get commands ticket ≡ Some (command.Launch kernel range orders) → IsPrepared m kernel range context.launch.now → buffers ≡ m.buffers → IsSourceOf script commands done kernel context.program → IsPlaced script ticket place
     → IsShort (launch_of (launches.setup_of context.launch.now) (bytes_in buffers)) f given runs → IsAsWanted options.as_given given runs → string_bytes e.schedule.given ≡ schedule_words given
-    → file ≡ source_name script name context.program.program_command
-    → IsExplained options name file (launch_of (launches.setup_of context.launch.now) (bytes_in buffers)) (bytes_in buffers) context ticket place range orders f runs e → context.kernel.now ≡ kernel
-    → HasWhole m options name script commands done ticket f given runs e
-whole m options name script commands done ticket place kernel range orders context buffers file f given runs e at p same source stands short wanted words of_file explained named = record {
+    → source_file ≡ source_name script name context.program.program_command → file ≡ utf8_lossy source_file
+    → IsExplained options name (launch_of (launches.setup_of context.launch.now) (bytes_in buffers)) (bytes_in buffers) context ticket place range orders f runs e → context.kernel.now ≡ kernel
+    → HasWhole m options name script commands done ticket f given runs file e
+whole m options name script commands done ticket place kernel range orders context buffers source_file file f given runs e at p same source stands short wanted words of_file told_file explained named = record {
   kernel = kernel;
   range = range;
   orders = orders;
@@ -85,10 +84,10 @@ whole m options name script commands done ticket place kernel range orders conte
   source = source;
   place = place;
   stands = stands;
+  named = told_file ∙ ap utf8_lossy of_file;
   explained =
-      subst (λ (n : List ℕ). IsExplained options name n (launch_of (setup_of m (kernel_of m kernel) range) (bytes_of m)) (bytes_of m) context ticket place range orders f runs e) of_file
-      (subst (λ (b : Table (List ℕ)). IsExplained options name file (launch_of (setup_of m (kernel_of m kernel) range) (bytes_in b)) (bytes_in b) context ticket place range orders f runs e) same
-      (subst (λ (s : Setup). IsExplained options name file (launch_of s (bytes_in buffers)) (bytes_in buffers) context ticket place range orders f runs e) p.setup explained));
+      subst (λ (b : Table (List ℕ)). IsExplained options name (launch_of (setup_of m (kernel_of m kernel) range) (bytes_in b)) (bytes_in b) context ticket place range orders f runs e) same
+      (subst (λ (s : Setup). IsExplained options name (launch_of s (bytes_in buffers)) (bytes_in buffers) context ticket place range orders f runs e) p.setup explained);
   schedule = words;
 }
 
@@ -96,8 +95,8 @@ whole m options name script commands done ticket place kernel range orders conte
 pub if_some : {A : Type 0} (P : A → Type 0) (o : Option A) (x : A) → o ≡ Some x → IfSome o P → P x
 if_some P o x e h = subst (λ p. IfSome p P) e h
 
--- four facts of what was found
+-- five facts of what was found
 pub some_all :
-    {A : Type 0} (o : Option A) (P Q R S T : A → Type 0) → IfSome o P → IfSome o Q → IfSome o R → IfSome o S → ((x : A) → P x → Q x → R x → S x → T x) → IfSome o T
-some_all (Some x) P Q R S T p q r s h = h x p q r s
-some_all None P Q R S T p q r s h = tt
+    {A : Type 0} (o : Option A) (P Q R S U T : A → Type 0) → IfSome o P → IfSome o Q → IfSome o R → IfSome o S → IfSome o U → ((x : A) → P x → Q x → R x → S x → U x → T x) → IfSome o T
+some_all (Some x) P Q R S U T p q r s u h = h x p q r s u
+some_all None P Q R S U T p q r s u h = tt

@@ -31,9 +31,9 @@ use Rattle.host_commands.specs.declared.command.Command.TheVariants as command
 use Rattle.item_step.specs.Launches as launches
 use Rattle.launch_facts.specs.Commands.{HasNoSource, IsSource}
 use Rattle.launch_facts.specs.Facts.{TellsMemory, fault_number, named_items, number_name}
-use Rattle.launch_facts.specs.Placed.{IsPlaced, source_name}
+use Rattle.placed_scripts.specs.Placed.{IsPlaced, source_name}
 use Rattle.launch_facts.specs.declared.commands.ProgramSource.{ProgramSource}
-use Rattle.launch_facts.specs.declared.placed.PlacedScript.{PlacedScript}
+use Rattle.placed_scripts.specs.declared.placed.PlacedScript.{PlacedScript}
 use Rattle.simfile.specs.declared.script.CommandPlace.{CommandPlace}
 use Rattle.telling.specs.Judged.{IsShort}
 use Rattle.telling.specs.declared.facts.TellOptions.{TellOptions}
@@ -118,11 +118,10 @@ pub record TellsItems (options : TellOptions) (launch : Launch) (context : Conte
   pub told : AreTold context played.marks.items (told_items f played) e.items.items
   pub tells : TellsPlayed options (group_items (launches.setup_of context.launch.now).range) f played e
 
--- an explanation of a launch of the script of this name, whose program's source stands in a file of this name and whose
--- buffers have these contents, and of its fault by a schedule
-pub record IsExplained (options : TellOptions) (name file : List ℕ) (launch : Launch) (contents : List ℕ → List ℕ) (context : Context) (ticket : ℕ) (place : CommandPlace) (range : Range) (orders : Bool) (f : Fault) (runs : List EventRun) (e : Explanation) : Type 0 where
+-- an explanation of a launch of the script of this name, whose buffers have these contents, and of its fault by a
+-- schedule
+pub record IsExplained (options : TellOptions) (name : List ℕ) (launch : Launch) (contents : List ℕ → List ℕ) (context : Context) (ticket : ℕ) (place : CommandPlace) (range : Range) (orders : Bool) (f : Fault) (runs : List EventRun) (e : Explanation) : Type 0 where
   pub script : string_bytes e.script ≡ utf8_lossy name
-  pub source : string_bytes e.source ≡ utf8_lossy file
   pub launched : TellsLaunch options.budget ticket place range orders e.launch
   pub names : TellsNames context e.launch
   pub faulted : TellsFault f e.fault
@@ -149,7 +148,7 @@ IsAsWanted as_given given runs = MatchBool as_given (runs ≡ given) ⊤
 -- leads the launch to the fault and isn't longer than the given one, or is that very one; its places are those in the
 -- source of the kernel's program, with the name of the file in which that stands, and its line is that of the launch's
 -- command in the text by which the script is told. The launch runs this kernel's code.
-pub record HasWhole (m : Machine) (options : TellOptions) (name : List ℕ) (script : PlacedScript) (commands : List Command) (done : List Bool) (ticket : ℕ) (f : Fault) (given runs : List EventRun) (e : Explanation) : Type 0 where
+pub record HasWhole (m : Machine) (options : TellOptions) (name : List ℕ) (script : PlacedScript) (commands : List Command) (done : List Bool) (ticket : ℕ) (f : Fault) (given runs : List EventRun) (file : List ℕ) (e : Explanation) : Type 0 where
   pub kernel : List ℕ
   pub range : Range
   pub orders : Bool
@@ -163,5 +162,6 @@ pub record HasWhole (m : Machine) (options : TellOptions) (name : List ℕ) (scr
   pub source : IsSourceOf script commands done kernel context.program
   pub place : CommandPlace
   pub stands : IsPlaced script ticket place
-  pub explained : IsExplained options name (source_name script name context.program.program_command) (launch_of (setup_of m (kernel_of m kernel) range) (bytes_of m)) (bytes_of m) context ticket place range orders f runs e
+  pub named : file ≡ utf8_lossy (source_name script name context.program.program_command)
+  pub explained : IsExplained options name (launch_of (setup_of m (kernel_of m kernel) range) (bytes_of m)) (bytes_of m) context ticket place range orders f runs e
   pub schedule : string_bytes e.schedule.given ≡ schedule_words given

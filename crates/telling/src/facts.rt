@@ -358,27 +358,23 @@ pub(crate) fn schedule_facts(
 #[derive(Drop)]
 struct Head {
     script: String,
-    source: String,
     launch: LaunchFacts,
     fault: FaultFacts,
 }
 
-/// What is said before the reasons: the names of the script and of its source's file, the launch and the fault. An
-/// error is out of memory.
+/// What is said before the reasons: the script's name, the launch and the fault. An error is out of memory.
 fn head_of(
     context: &Context<'_>,
     place: &LaunchTexts<'_>,
     fault: &Fault,
 ) -> Result<Head, AllocError>
     ensures script { IfOk result (λ head. string_bytes head.script ≡ utf8_lossy place.now.name.now) }
-    ensures source { IfOk result (λ head. string_bytes head.source ≡ utf8_lossy place.now.source.now) }
     ensures launch { IfOk result (λ head. TellsLaunch place.now.options.budget place.now.ticket place.now.place place.now.range.now place.now.orders head.launch) }
     ensures names { IfOk result (λ head. TellsNames context.now head.launch) }
     ensures fault { IfOk result (λ head. TellsFault fault.now head.fault) }
 {
     Ok(Head {
         script: text(context.alloc, place.name)?,
-        source: text(context.alloc, place.source)?,
         launch: launch_facts(context, place)?,
         fault: fault_facts_of(context.alloc, fault)?,
     })
@@ -435,7 +431,6 @@ pub(crate) fn explanation_of(
     schedule: ScheduleFacts,
 ) -> Result<Explanation, AllocError>
     ensures script { IfOk result (λ whole. string_bytes whole.script ≡ utf8_lossy place.now.name.now) }
-    ensures source { IfOk result (λ whole. string_bytes whole.source ≡ utf8_lossy place.now.source.now) }
     ensures launch { IfOk result (λ whole. TellsLaunch place.now.options.budget place.now.ticket place.now.place place.now.range.now place.now.orders whole.launch) }
     ensures names { IfOk result (λ whole. TellsNames context.now whole.launch) }
     ensures fault { IfOk result (λ whole. TellsFault fault.now whole.fault) }
@@ -450,7 +445,6 @@ pub(crate) fn explanation_of(
     let steps = told_steps(context, options, played)?;
     Ok(Explanation {
         script: head.script,
-        source: head.source,
         launch: head.launch,
         fault: head.fault,
         memory: body.memory,

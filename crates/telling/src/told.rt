@@ -2,6 +2,7 @@
 #![tactic(auto)]
 
 ghost use Rattle.std.specs.Prelude.{◌≡◌, ◌≤◌, true, Decides, Some, length, IfOk, IfErr, IfSome, IfNone, IsTrue, is_some, slice_get, string_bytes};
+ghost use Rattle.std.specs.Str.Lossy.{utf8_lossy};
 ghost use Rattle.clmodel.specs.Law.{Reaches};
 ghost use Rattle.clmodel.specs.Next.{launch_of};
 ghost use Rattle.clmodel.specs.Outcome.{events_of};
@@ -9,7 +10,7 @@ ghost use Rattle.device.specs.Kept.{IsCodeOf};
 ghost use Rattle.device.specs.Machine.{machine_of};
 ghost use Rattle.explain_items.specs.Marked.{CodeIsMarked};
 ghost use Rattle.item_step.specs.Launches.{code_of, setup_of};
-ghost use Rattle.launch_facts.specs.Placed.{HasPlaces, source_name};
+ghost use Rattle.placed_scripts.specs.Placed.{HasPlaces, source_name};
 ghost use Rattle.launches.specs.Groups.{HasGroups};
 ghost use Rattle.spaces.specs.Buffers.{bytes_in};
 ghost use Rattle.telling.specs.Judged.{IsShort, LeadsThere, NoLaunch, Tells, Untold};
@@ -24,8 +25,9 @@ use device::{Command, Device, Launch, Refusal};
 use explain_items::Context;
 use explanation::Explanation;
 use fault_play::{play, shorter};
-use launch_facts::{PlacedScript, ProgramSource, schedule_words, source_of};
+use launch_facts::{ProgramSource, schedule_words, source_of};
 use origins::code_is_marked;
+use placed_scripts::PlacedScript;
 use replay::replay;
 use shortening::{Named, Shortened, event_count};
 use simfile::faults::RunFault;
@@ -33,11 +35,13 @@ use spaces::Buffers;
 use std::alloc::{AllocError, Global};
 use text_lines::line_text;
 
-/// A case that is explained: its explanation, and the schedule that it tells.
+/// A case that is explained: its explanation, the schedule that it tells, and the name of the file in which the source of
+/// its program stands, whose lines it tells.
 #[derive(Drop)]
 pub struct ExplainedCase {
     pub whole: Explanation,
     pub schedule: Schedule,
+    pub source: String,
 }
 
 /// Whether a run is of the group of one of two items.
@@ -170,7 +174,7 @@ fn whole_of(
     requires leads { Reaches (launch_of (setup_of context.now.launch.now) (bytes_in buffers.now)) (events_of short.now.schedule) fault.now }
     ensures none { IfOk result (λ found. IfNone found (Reaches (launch_of (setup_of context.now.launch.now) (bytes_in buffers.now)) (events_of short.now.schedule) fault.now → ⊥)) }
     ensures given { IfOk result (λ found. IfSome found (λ whole. whole.schedule.given ≡ given.text)) }
-    ensures whole { IfOk result (λ found. IfSome found (IsExplained place.now.options place.now.name.now place.now.source.now (launch_of (setup_of context.now.launch.now) (bytes_in buffers.now)) (bytes_in buffers.now) context.now
+    ensures whole { IfOk result (λ found. IfSome found (IsExplained place.now.options place.now.name.now (launch_of (setup_of context.now.launch.now) (bytes_in buffers.now)) (bytes_in buffers.now) context.now
         place.now.ticket place.now.place place.now.range.now place.now.orders fault.now short.now.schedule)) }
 {
     let (alloc, launch) = (context.alloc, context.launch);
@@ -199,7 +203,8 @@ fn told_of(
     ensures told { IfOk result (λ found. IfSome found (λ told. IsShort (launch_of (setup_of context.now.launch.now) (bytes_in buffers.now)) fault.now schedule told.schedule)) }
     ensures wanted { IfOk result (λ found. IfSome found (λ told. IsAsWanted as_given schedule told.schedule)) }
     ensures given { IfOk result (λ found. IfSome found (λ told. string_bytes told.whole.schedule.given ≡ schedule_words schedule)) }
-    ensures whole { IfOk result (λ found. IfSome found (λ told. IsExplained place.now.options place.now.name.now place.now.source.now (launch_of (setup_of context.now.launch.now) (bytes_in buffers.now)) (bytes_in buffers.now) context.now
+    ensures source { IfOk result (λ found. IfSome found (λ told. string_bytes told.source ≡ utf8_lossy place.now.source.now)) }
+    ensures whole { IfOk result (λ found. IfSome found (λ told. IsExplained place.now.options place.now.name.now (launch_of (setup_of context.now.launch.now) (bytes_in buffers.now)) (bytes_in buffers.now) context.now
         place.now.ticket place.now.place place.now.range.now place.now.orders fault.now told.schedule told.whole)) }
 {
     let given = given_schedule(context.alloc, &schedule)?;
@@ -210,6 +215,7 @@ fn told_of(
     Ok(Some(ExplainedCase {
         whole,
         schedule: short.schedule,
+        source: String::from_utf8_lossy(context.alloc, place.source)?,
     }))
 }
 
@@ -248,7 +254,8 @@ fn explain_launch(
     ensures told { IfOk result (λ found. IfSome found (λ told. IsShort (launch_of (setup_of context.now.launch.now) (bytes_in buffers.now)) fault.now schedule told.schedule)) }
     ensures wanted { IfOk result (λ found. IfSome found (λ told. IsAsWanted place.now.options.as_given schedule told.schedule)) }
     ensures given { IfOk result (λ found. IfSome found (λ told. string_bytes told.whole.schedule.given ≡ schedule_words schedule)) }
-    ensures whole { IfOk result (λ found. IfSome found (λ told. IsExplained place.now.options place.now.name.now place.now.source.now (launch_of (setup_of context.now.launch.now) (bytes_in buffers.now)) (bytes_in buffers.now) context.now
+    ensures source { IfOk result (λ found. IfSome found (λ told. string_bytes told.source ≡ utf8_lossy place.now.source.now)) }
+    ensures whole { IfOk result (λ found. IfSome found (λ told. IsExplained place.now.options place.now.name.now (launch_of (setup_of context.now.launch.now) (bytes_in buffers.now)) (bytes_in buffers.now) context.now
         place.now.ticket place.now.place place.now.range.now place.now.orders fault.now told.schedule told.whole)) }
 {
     if !leads_there(context, buffers, fault, &schedule, known)? {
@@ -343,7 +350,7 @@ pub fn explain_case(
     requires placed { HasPlaces launched.now.script launched.now.commands.now }
     requires known { known ≡ true → LeadsThere (machine_of device.now) launched.now.commands.now ticket fault.now schedule }
     ensures told { IfOk result (λ found. Tells (machine_of device.now) launched.now.commands.now ticket fault.now schedule (is_some found)) }
-    ensures whole { IfOk result (λ found. IfSome found (λ told. HasWhole (machine_of device.now) launched.now.options launched.now.name.now launched.now.script launched.now.commands.now launched.now.done.now ticket fault.now schedule told.schedule told.whole)) }
+    ensures whole { IfOk result (λ found. IfSome found (λ told. HasWhole (machine_of device.now) launched.now.options launched.now.name.now launched.now.script launched.now.commands.now launched.now.done.now ticket fault.now schedule told.schedule (string_bytes told.source) told.whole)) }
     ensures failed { IfErr result (Untold (machine_of device.now) launched.now.commands.now ticket) }
 {
     let Some((kernel, range, orders)) = launch_in(launched.commands, ticket) else {

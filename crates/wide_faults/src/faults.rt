@@ -18,7 +18,7 @@ use crate::laws::faults_are_in_kernel;
 use clmodel::setup::{Argument, Range};
 use clmodel::text::Name;
 use device::{Command, Configuration, Device, Launch, Refusal, Reply};
-use launch_facts::{PlacedScript, told_script};
+use placed_scripts::{PlacedScript, told_script};
 use simfile::copies::copy_of;
 use simfile::faults::RunFault;
 use simfile::script::{CommandPlace, Script, read_script};

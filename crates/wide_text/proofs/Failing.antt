@@ -1,7 +1,7 @@
 -- Why nothing was written of a script.
 use Rattle.std.proofs.Common.{ℕ, List, Option, refl}
 use Rattle.byte_io.specs.Sink.{Sink}
-use Rattle.launch_facts.specs.declared.placed.PlacedScript.{PlacedScript}
+use Rattle.placed_scripts.specs.declared.placed.PlacedScript.{PlacedScript}
 use Rattle.limits.specs.declared.Configuration.{Configuration}
 use Rattle.simfile.specs.Faults.{NoScript}
 use Rattle.simfile.specs.declared.faults.RunFault.{RunFault}

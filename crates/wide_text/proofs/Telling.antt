@@ -4,9 +4,9 @@ use Rattle.device.specs.Machine.{Machine, opening}
 use Rattle.host_commands.specs.declared.command.Command.{Command}
 use Rattle.host_commands.specs.declared.command.Reply.{Reply}
 use Rattle.limits.specs.declared.Configuration.{Configuration}
-use Rattle.launch_facts.proofs.Placing.{is_told}
-use Rattle.launch_facts.specs.Placed.{IsToldBy}
-use Rattle.launch_facts.specs.declared.placed.PlacedScript.{PlacedScript}
+use Rattle.placed_scripts.proofs.Placing.{is_told}
+use Rattle.placed_scripts.specs.Placed.{IsToldBy}
+use Rattle.placed_scripts.specs.declared.placed.PlacedScript.{PlacedScript}
 use Rattle.simfile.specs.Places.{AreAt}
 use Rattle.simfile.specs.Script.{IsScript}
 use Rattle.simfile.specs.declared.script.CommandPlace.{CommandPlace}

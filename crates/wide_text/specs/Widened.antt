@@ -7,8 +7,8 @@ use Rattle.host_commands.specs.declared.command.Command.{Command}
 use Rattle.host_commands.specs.declared.command.Reply.{Reply}
 use Rattle.host_commands.specs.declared.command.Reply.TheVariants as reply
 use Rattle.byte_io.specs.Sink.{Sink, Stopped}
-use Rattle.launch_facts.specs.Placed.{IsTold as IsToldIn}
-use Rattle.launch_facts.specs.declared.placed.PlacedScript.{PlacedScript}
+use Rattle.placed_scripts.specs.Placed.{IsTold as IsToldIn}
+use Rattle.placed_scripts.specs.declared.placed.PlacedScript.{PlacedScript}
 use Rattle.device.specs.Machine.{Machine, opening}
 use Rattle.simfile.specs.Script.{IsBadLine, IsScript}
 use Rattle.simfile.specs.declared.faults.RunFault.{RunFault}

@@ -5,7 +5,7 @@ use crate::data::{FreeBuffer, WideLaunch};
 use crate::gathering::reply_words;
 use clmodel::text::Name;
 use device::{Command, Limits, Reply};
-use launch_facts::PlacedScript;
+use placed_scripts::PlacedScript;
 use spaces::Table;
 use std::alloc::{AllocError, Global};
 use wide_scripts::{Note, Wide, WideScript};

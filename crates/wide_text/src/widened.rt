@@ -18,7 +18,7 @@ use crate::text::text_of;
 use crate::told_launches::{Performed, launches_of};
 use byte_io::{Write, WriteFailed};
 use device::{Configuration, Reply};
-use launch_facts::{PlacedScript, told_script};
+use placed_scripts::{PlacedScript, told_script};
 use simfile::copies::copies_of;
 use simfile::faults::RunFault;
 use simfile::script::{Script, read_script};

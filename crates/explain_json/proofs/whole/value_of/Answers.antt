@@ -13,13 +13,13 @@ returns c =
       reasons = subst (λ (l : List Reason). AreReasons l (view c.in_ok-why.why)) c.as_slice.ensures.value c.in_ok-why.ensures;
       is = h;
     }) (c.finish.ensures _ (
-    c.with-9.ensures _ refl (
     c.with-8.ensures _ refl (
     c.with-7.ensures _ refl (
     c.with-6.ensures _ refl (
     c.with-5.ensures _ refl (
     c.with-4.ensures _ refl (
     c.with-3.ensures _ refl (
+    c.with_text.ensures _ refl _ refl (
     c.with-2.ensures _ refl (
     c.with.ensures _ refl (
     c.with_value.ensures (view c.in_ok-why.why) refl _ tt c.new.ensures)))))))))))

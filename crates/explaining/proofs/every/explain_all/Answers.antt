@@ -1,6 +1,6 @@
 use Rattle.std.proofs.Common.{string_bytes}
 use Rattle.device.specs.Machine.{machine_of}
-use Rattle.launch_facts.proofs.Placing.{has_places}
+use Rattle.placed_scripts.proofs.Placing.{has_places}
 use Rattle.explaining.proofs.Each.{found_all, says_all}
 use Rattle.explaining.proofs.every.explain_all.Goals as goal
 

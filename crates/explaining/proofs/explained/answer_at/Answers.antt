@@ -1,5 +1,5 @@
 use Rattle.device.specs.Machine.{machine_of, opening}
-use Rattle.launch_facts.proofs.Placing.{has_places}
+use Rattle.placed_scripts.proofs.Placing.{has_places}
 use Rattle.explaining.proofs.Walking.{found_at, stands_behind}
 use Rattle.explaining.proofs.Writing.{says_one}
 use Rattle.explaining.proofs.explained.answer_at.Goals as goal

@@ -1,5 +1,5 @@
 use Rattle.std.proofs.lemmas.Result.{err_from_is_err_and}
-use Rattle.launch_facts.proofs.Placing.{is_told}
+use Rattle.placed_scripts.proofs.Placing.{is_told}
 use Rattle.explaining.proofs.Schedules.{no_script}
 use Rattle.explaining.proofs.Writing.{says_of}
 use Rattle.explaining.proofs.explained.explain_schedule.Goals as goal

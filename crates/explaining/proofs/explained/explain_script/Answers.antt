@@ -1,4 +1,4 @@
-use Rattle.launch_facts.proofs.Placing.{is_told}
+use Rattle.placed_scripts.proofs.Placing.{is_told}
 use Rattle.explaining.proofs.explained.explain_script.Goals as goal
 
 pub explain_all-requires-clause-placed : goal.explain_all-requires-clause-placed

@@ -26,7 +26,7 @@ returns-clause-whole c =
     (λ found.
     IfSome found
     (λ told.
-    HasWhole (machine_of c.perform_all.new.device) (tell_options c.args.options) c.args.given.name.now c.args.told c.args.commands.now l c.args.ticket c.args.fault.now c.args.schedule told.schedule told.whole)))
+    HasWhole (machine_of c.perform_all.new.device) (tell_options c.args.options) c.args.given.name.now c.args.told c.args.commands.now l c.args.ticket c.args.fault.now c.args.schedule told.schedule (string_bytes told.source) told.whole)))
     c.as_slice.ensures.value c.explain_case.ensures.whole)
 
 pub returns-clause-failed : goal.returns-clause-failed

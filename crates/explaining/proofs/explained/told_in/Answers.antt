@@ -1,5 +1,5 @@
 use Rattle.std.proofs.Common.{arith}
-use Rattle.launch_facts.proofs.Placing.{has_places}
+use Rattle.placed_scripts.proofs.Placing.{has_places}
 use Rattle.explaining.proofs.Schedules.{explained, no_launch, none_behind, unexplained}
 use Rattle.explaining.proofs.Writing.{whole_of}
 use Rattle.explaining.proofs.explained.told_in.Goals as goal

@@ -9,9 +9,9 @@ use Rattle.telling.proofs.told.whole_of.Goals as goal
 
 pub returns-clause-whole : goal.returns-clause-whole
 returns-clause-whole c =
-    explained c.in_ok-whole.whole c.args.place.now.options c.args.place.now.name.now c.args.place.now.source.now (launch_of (setup_of c.args.context.now.launch.now) (bytes_in c.args.buffers.now)) (bytes_in c.args.buffers.now) c.args.context.now c.args.place.now.ticket
+    explained c.in_ok-whole.whole c.args.place.now.options c.args.place.now.name.now (launch_of (setup_of c.args.context.now.launch.now) (bytes_in c.args.buffers.now)) (bytes_in c.args.buffers.now) c.args.context.now c.args.place.now.ticket
     c.args.place.now.place c.args.place.now.range.now c.args.place.now.orders c.args.fault.now c.args.short.now.schedule c.in_ok-facts.facts c.items_of-items.result.0 c.items_of-items.result.1 c.in-Some.played
-    c.in_ok-whole.ensures.script c.in_ok-whole.ensures.source c.in_ok-whole.ensures.launch c.in_ok-whole.ensures.names c.in_ok-whole.ensures.fault c.in_ok-whole.ensures.object c.in_ok-whole.ensures.schedule c.in_ok-whole.ensures.items c.in_ok-whole.ensures.played
+    c.in_ok-whole.ensures.script c.in_ok-whole.ensures.launch c.in_ok-whole.ensures.names c.in_ok-whole.ensures.fault c.in_ok-whole.ensures.object c.in_ok-whole.ensures.schedule c.in_ok-whole.ensures.items c.in_ok-whole.ensures.played
     c.in_ok-facts.ensures.short c.items_of-items.ensures
     (if_some _ c.in_ok-played.field-0 c.in-Some.played c.in-Some.is c.in_ok-played.ensures.played) c.requires.leads
 

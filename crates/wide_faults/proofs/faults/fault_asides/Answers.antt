@@ -1,7 +1,7 @@
 use Rattle.std.proofs.Common.{List, refl, subst}
 use Rattle.device.specs.Machine.{opening}
 use Rattle.host_commands.specs.declared.command.Command.{Command}
-use Rattle.launch_facts.proofs.Placing.{is_told}
+use Rattle.placed_scripts.proofs.Placing.{is_told}
 use Rattle.wide_faults.specs.Faults.{TellsFaults}
 use Rattle.wide_faults.proofs.faults.fault_asides.Goals as goal
 

@@ -1,8 +1,8 @@
 -- How a script is told: each of its commands has a place there.
 use Rattle.std.proofs.Common.{◌≡◌, ℕ, List, Option, ◌∙◌, subst, sym}
 use Rattle.host_commands.specs.declared.command.Command.{Command}
-use Rattle.launch_facts.specs.Placed.{HasPlaces, IsTold, IsToldBy}
-use Rattle.launch_facts.specs.declared.placed.PlacedScript.{PlacedScript}
+use Rattle.placed_scripts.specs.Placed.{HasPlaces, IsTold, IsToldBy}
+use Rattle.placed_scripts.specs.declared.placed.PlacedScript.{PlacedScript}
 use Rattle.simfile.specs.Places.{AreAt}
 use Rattle.simfile.specs.declared.script.CommandPlace.{CommandPlace}
 

@@ -2,7 +2,7 @@
 #![tactic(auto)]
 
 ghost use Rattle.std.specs.Prelude.{◌≡◌, ◌<◌, ◌≤◌, [], length, option_map};
-ghost use Rattle.launch_facts.specs.Placed.{IsPlaced, IsToldBy, chosen, file_at, told_by};
+ghost use Rattle.placed_scripts.specs.Placed.{IsPlaced, IsToldBy, chosen, file_at, told_by};
 
 use clmodel::text::Bytes;
 use simfile::script::CommandPlace;

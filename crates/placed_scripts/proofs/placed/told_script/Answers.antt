@@ -1,5 +1,5 @@
 use Rattle.std.proofs.Common.{ap, length, ◌∙◌}
-use Rattle.launch_facts.proofs.placed.told_script.Goals as goal
+use Rattle.placed_scripts.proofs.placed.told_script.Goals as goal
 
 pub returns : goal.returns
 returns c = record {

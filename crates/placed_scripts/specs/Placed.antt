@@ -3,7 +3,7 @@ use Rattle.std.specs.Prelude.{◌≡◌, ℕ, Option, None, Some, List, [], leng
 use Rattle.host_commands.specs.declared.command.Command.{Command}
 use Rattle.simfile.specs.Places.{AreAt}
 use Rattle.simfile.specs.declared.script.CommandPlace.{CommandPlace}
-use Rattle.launch_facts.specs.declared.placed.PlacedScript.{PlacedScript}
+use Rattle.placed_scripts.specs.declared.placed.PlacedScript.{PlacedScript}
 
 -- another text in place of a script's own, where it has as many places
 abbrev pub chosen : PlacedScript → PlacedScript → PlacedScript
