@@ -68,8 +68,8 @@ pub fn value_of(alloc: Global, whole: &Explanation, source: &str) -> Result<Valu
         .finish()
 }
 
-/// An explanation, whose source stands in a file of this name, as one line of JSON, which the writer makes of its value,
-/// and which reads back as this value.
+/// An explanation, whose source stands in a file of this name, as one line of JSON, which the writer makes of its
+/// value, and which reads back as this value.
 pub fn json_of(alloc: Global, whole: &Explanation, source: &str) -> Result<String, AllocError>
     ensures { IfOk result (λ json. IsExplanationLine whole.now source.now (string_bytes json)) }
 {

@@ -175,8 +175,8 @@ abbrev pub parameters_of : Option Memory → List ParameterFacts
 parameters_of None = []
 parameters_of (Some memory) = memory.parameters.items
 
--- a text of an explanation whose source stands in a file of this name: the fault, its launch and its parameters in a line each, the items, the reasons, the steps
--- and the schedule
+-- a text of an explanation whose source stands in a file of this name: the fault, its launch and its parameters in a
+-- line each, the items, the reasons, the steps and the schedule
 pub record IsText (e : Explanation) (source text : List ℕ) : Type 0 where
   pub title : List ℕ
   pub launch : List ℕ

@@ -35,8 +35,8 @@ use spaces::Buffers;
 use std::alloc::{AllocError, Global};
 use text_lines::line_text;
 
-/// A case that is explained: its explanation, the schedule that it tells, and the name of the file in which the source of
-/// its program stands, whose lines it tells.
+/// A case that is explained: its explanation, the schedule that it tells, and the name of the file in which the source
+/// of its program stands, whose lines it tells.
 #[derive(Drop)]
 pub struct ExplainedCase {
     pub whole: Explanation,

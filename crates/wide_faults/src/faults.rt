@@ -430,7 +430,8 @@ fn faults_of(
 /// decide, as far as that was found, or that nothing is said of a launch with `orders`. Where each is told, the number
 /// of its command and the line stand in front. The lines are those of the text that a user wrote, where one is given
 /// with a place for each command, and else those of the script, which the bytes have to be. It takes the time of the
-/// script's run, and for each launch without `orders` that faulted that of `widen_launch` and of a build of its program.
+/// script's run, and for each launch without `orders` that faulted that of `widen_launch` and of a build of its
+/// program.
 pub fn fault_asides(
     alloc: Global,
     configuration: Configuration,
