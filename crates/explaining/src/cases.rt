@@ -1,7 +1,7 @@
 //! A fault of a launch explained, on the device that stood before the launch.
 #![tactic(auto)]
 
-ghost use Rattle.std.specs.Prelude.{◌≡◌, true, IfErr, IfOk, IfSome, is_some};
+ghost use Rattle.std.specs.Prelude.{◌≡◌, true, IfErr, IfOk, IfSome, is_some, string_bytes};
 ghost use Rattle.device.specs.Machine.{machine_of};
 ghost use Rattle.placed_scripts.specs.Placed.{HasPlaces};
 ghost use Rattle.telling.specs.Judged.{LeadsThere, Tells, Untold};

@@ -1,4 +1,4 @@
-use Rattle.std.proofs.Common.{◌∙◌, Bool, List, subst}
+use Rattle.std.proofs.Common.{◌∙◌, Bool, List, string_bytes, subst}
 use Rattle.std.specs.Option.{IfSome}
 use Rattle.std.specs.Result.{IfOk}
 use Rattle.device.specs.Machine.{machine_of}
