@@ -1,5 +1,5 @@
 -- Each reply of a script that is a fault or a refusal, told.
-use Rattle.std.proofs.Common.{◌≡◌, ◌||◌, ◌++◌, ◌∷◌, [], ◌∙◌, ℕ, Bool, true, false, ◌⊎◌, List, Some, length, inl, inr, refl, sym, ap, subst, append_assoc}
+use Rattle.std.proofs.Common.{◌≡◌, ◌||◌, ◌++◌, ◌∷◌, [], ◌∙◌, ℕ, Bool, true, false, ◌⊎◌, List, Option, Some, length, inl, inr, refl, sym, ap, subst, append_assoc}
 use Rattle.std.specs.Prelude.{MatchBool, slice_get}
 use Rattle.std.proofs.lemmas.Bool.{false≢true}
 use Rattle.std.proofs.lemmas.List.{append-nil}
