@@ -121,8 +121,6 @@ for script in "$@"; do
     failed=1
     first=$(sed 1q "$folder/first")
     printf '%s:%s\n' "$script" "$first"
-    # (an explanation tells the lines of a script's plain text, which are those of its own but where it is by hand)
-    if "$CLSIM" plain "$script" 2>/dev/null | cmp -s - "$script" 2>/dev/null; then by_hand=''; else by_hand=1; fi
     # (the explanation is that of the first fault or refusal; of want of memory and of a bad line there is none)
     case $first in
         [0-9]*': fault '* | [0-9]*': refused '*)
@@ -130,14 +128,11 @@ for script in "$@"; do
             told=$("$CLSIM" explain "$script" $device 2>/dev/null) || told= ;;
         *) told= ;;
     esac
-    if [ -z "$told" ] || [ -n "$by_hand" ]; then sed 1d "$folder/first"; fi
-    if [ -n "$told" ] && [ -n "$by_hand" ]; then echo "  in the lines of clsim plain $script:"; fi
-    if [ -n "$told" ]; then printf '%s\n' "$told"; fi
+    if [ -n "$told" ]; then printf '%s\n' "$told"; else sed 1d "$folder/first"; fi
     [ -n "${SARIF:-}" ] || continue
-    if [ -z "$told" ] || [ -n "$by_hand" ]; then
+    if [ -z "$told" ]; then
         case $first in [0-9]*) printf '%s:%s\n' "$script" "$first" >>"$folder/explained" ;; esac
     fi
-    [ -z "$by_hand" ] || continue
     # shellcheck disable=SC2086
     told=$("$CLSIM" explain "$script" $device --format json 2>/dev/null)
     # (of a script that lacked memory or has a bad line there is none)

@@ -5,7 +5,6 @@ Reads the files that are named, or standard input, with an explanation a line. T
 link and network: the lines of the source that are meant, with those round them where the script can be read by its
 name, and a picture of the schedule, a lane a work-item. The status is 0, or 2 where the input is bad."""
 
-import re
 
 from reading import (
     Files, argument_texts, events_of, explanations, file_of, is_refusal, item_text, memory_text, place_of, reason_texts,
@@ -261,12 +260,23 @@ def places_of(whole):
                 yield {**call, "length": 0}, f"called at column {call['column']}"
 
 
+def last_line(lines, first):
+    """The last line of a program's source that begins in a line, behind that of its command: the last one of a file."""
+    words = lines.get(first - 1, b"").split(b"#")[0].split()
+    last = max(lines, default=0)
+    if words[:1] != [b"program"]:
+        return last
+    if len(words) == 3 and words[2].isdigit():
+        return first + int(words[2]) - 1
+    ends = (number - 1 for number in range(first, last + 1) if lines.get(number, b"").split() == words[3:])
+    return next(ends, last) if words[2:3] == [b"until"] else last
+
+
 def lines_round(lines, places):
     """The lines of the program's source round places by their numbers, as far as they are known."""
     near = {place["script_line"] + step for place in places for step in range(-ROUND, ROUND + 1)}
     first = min((place["script_line"] - place["line"] + 1 for place in places), default=1)
-    count = re.fullmatch(rb"program \S+ (\d+)", lines.get(first - 1, b""))
-    last = first + int(count[1]) - 1 if count else max(lines, default=0)
+    last = last_line(lines, first)
     return {number: lines[number] for number in near if first <= number <= last and number in lines}
 
 

@@ -173,12 +173,13 @@ def told_places(whole):
 
 
 def file_of(whole, place):
-    """The name of the file that a place is in: one of the client's source, or the script."""
-    return place.get("file", whole["script"])
+    """The name of the file that a place is in: one of the client's source, that of a source that the script names, or
+    the script."""
+    return place.get("file", whole.get("source", whole["script"]))
 
 
 class Files:
-    """The files of an explanation: the script, or those of the client's source."""
+    """The files of an explanation: the script, that of a source which it names, or those of the client's source."""
 
     def __init__(self, whole):
         self.whole, self.known = whole, {}

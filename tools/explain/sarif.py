@@ -177,7 +177,8 @@ def result(whole):
     spots = [(item, spot) for item, spot in spots if spot]
     places = [location(whole, files, spot, item_text(item)) for item, spot in spots]
     if not places:
-        line = {"script_line": whole["launch"]["script_line"], "column": 1, "text": whole["launch"]["text"]}
+        launch = whole["launch"]
+        line = {"file": whole["script"], "script_line": launch["script_line"], "column": 1, "text": launch["text"]}
         places = [location(whole, files, line, "the launch")]
     found = {
         "ruleId": "clsim/" + whole["fault"]["name"],

@@ -14,7 +14,10 @@ use Rattle.explaining.specs.declared.facts.ExplainOptions.{ExplainOptions}
 use Rattle.explaining.specs.declared.facts.Format.TheVariants as format
 use Rattle.explaining.specs.declared.facts.Given.{Given}
 use Rattle.exploring.specs.declared.facts.ExploreOptions.{ExploreOptions}
+use Rattle.placed_scripts.specs.declared.placed.PlacedScript.{PlacedScript}
 use Rattle.limits.specs.declared.Configuration.{Configuration}
+use Rattle.clsim.specs.OwnLines.{AreLent}
+use Rattle.clsim.specs.declared.own_lines.OwnLines.{OwnLines}
 
 -- the answer to what is given, and the text that says so, which was written whole
 pub record AnswerWritten (options : ExplainOptions) (given : Given) (old new : Sink) (answer : Bool) : Type 0 where
@@ -30,10 +33,11 @@ pub record IsGiven (given : Given) (name script : List ℕ) (schedule : Option (
   pub told : given.script.now ≡ script
   pub leads : option_map (λ bytes. bytes.now) given.schedule ≡ schedule
 
--- the answer to texts was written
-pub record Answered (options : ExplainOptions) (name script : List ℕ) (schedule : Option (List ℕ)) (old new : Sink) (answer : Bool) : Type 0 where
+-- the answer to texts was written, by the lines of the text that a user wrote, where one is given
+pub record Answered (options : ExplainOptions) (name script : List ℕ) (schedule : Option (List ℕ)) (written : Option PlacedScript) (old new : Sink) (answer : Bool) : Type 0 where
   pub given : Given
   pub is : IsGiven given name script schedule
+  pub by : given.written ≡ written
   pub told : AnswerWritten options given old new answer
 
 -- why there is no answer to texts
@@ -42,19 +46,23 @@ pub record Unanswered (configuration : Configuration) (name script : List ℕ) (
   pub is : IsGiven given name script schedule
   pub untold : Unwritten configuration given old new why
 
--- a script was read, and the answer to it was written
-pub record ScriptTold (options : ExplainOptions) (name : List ℕ) (rest : Option (List ℕ)) (old new : Sink) (answer : Bool) : Type 0 where
+-- a script was read, and the answer to it was written, by its own lines
+pub record ScriptTold (options : ExplainOptions) (name : List ℕ) (rest : Option (List ℕ)) (lines : Option OwnLines) (old new : Sink) (answer : Bool) : Type 0 where
   pub script : List ℕ
   pub read : Are rest script
-  pub answered : Answered options name script None old new answer
+  pub written : Option PlacedScript
+  pub lent : AreLent lines written
+  pub answered : Answered options name script None written old new answer
 
--- a script and a schedule file were read, and the answer to them was written
-pub record FileTold (options : ExplainOptions) (name : List ℕ) (rest rest' : Option (List ℕ)) (old new : Sink) (answer : Bool) : Type 0 where
+-- a script and a schedule file were read, and the answer to them was written, by the script's own lines
+pub record FileTold (options : ExplainOptions) (name : List ℕ) (rest rest' : Option (List ℕ)) (lines : Option OwnLines) (old new : Sink) (answer : Bool) : Type 0 where
   pub script : List ℕ
   pub schedule : List ℕ
   pub read : Are rest script
   pub file : Are rest' schedule
-  pub answered : Answered options name script (Some schedule) old new answer
+  pub written : Option PlacedScript
+  pub lent : AreLent lines written
+  pub answered : Answered options name script (Some schedule) written old new answer
 
 -- a script was read, and there is no answer to it
 pub record ScriptUnanswered (configuration : Configuration) (name : List ℕ) (rest : Option (List ℕ)) (old new : Sink) (why : RunFault) : Type 0 where

@@ -1,5 +1,5 @@
 -- Scripts as plain texts (own).
-use Rattle.std.specs.Prelude.{◌≡◌, ◌⊎◌, ℕ, ⊤, Option, List, [], MatchOption}
+use Rattle.std.specs.Prelude.{◌≡◌, ◌⊎◌, ℕ, ⊤, Option, None, List, [], MatchOption}
 use Rattle.host_commands.specs.declared.command.Command.{Command}
 use Rattle.simfile.specs.declared.faults.Reader.TheVariants as reader
 use Rattle.simfile.specs.declared.faults.RunFault.{RunFault}
@@ -10,6 +10,7 @@ use Rattle.written_scripts.specs.Written.{AreWrittenAt, IsBadWritten, IsOther, I
 use Rattle.written_scripts.specs.declared.files.NamedFile.{NamedFile}
 use Rattle.written_scripts.specs.declared.places.WrittenPlace.{WrittenPlace}
 use Rattle.clsim.specs.Files.{Unread}
+use Rattle.clsim.specs.OwnLines.{IsOwnOf}
 use Rattle.clsim.specs.declared.written_file.NoPlainText.{NoPlainText}
 use Rattle.clsim.specs.declared.written_file.NoPlainText.TheVariants as no_text
 use Rattle.clsim.specs.declared.written_file.PlainText.{PlainText}
@@ -21,9 +22,11 @@ pub record IsTurned (files : List NamedFile) (script text : List ℕ) (places : 
   pub is : IsPlainThird text commands
 
 -- the plain text of a script: where it is of version 3, one of the same commands, which stand there at these places,
--- else the script itself
+-- with the script and these places' lines, by which it is told; else the script itself
 abbrev pub IsPlainOf : List NamedFile → List ℕ → PlainText → Type 0
-IsPlainOf files script plain = MatchOption plain.places (IsOther script × (plain.text.items ≡ script)) (λ places. IsTurned files script plain.text.items places.items)
+IsPlainOf files script plain =
+    MatchOption plain.places (IsOther script × (plain.text.items ≡ script) × (plain.own ≡ None))
+    (λ places. IsTurned files script plain.text.items places.items × IsOwnOf script places.items plain.own)
 
 -- why a script has no plain text: its lowest bad line, or no memory was left
 abbrev pub Unturned : List NamedFile → List ℕ → NoPlainText → Type 0

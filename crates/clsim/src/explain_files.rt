@@ -10,23 +10,27 @@ ghost use Rattle.wide_faults.specs.Faults.{IsFaultAsides};
 ghost use Rattle.clsim.specs.Files.{IsGiven, Answered, Unanswered, ScriptTold, ScriptUntold, FileTold, FileUntold};
 ghost use Rattle.clsim.specs.Wide.{WidelyAnswered, WidelyUnanswered, WidelyTold, WidelyUntold};
 
+use crate::own_lines::Written;
 use crate::passing::put_all;
 use byte_io::{Read, Write};
 use cli::reading::bytes_of;
 use explaining::{ExplainOptions, Given, explain};
+use placed_scripts::PlacedScript;
 use simfile::faults::{Reader, RunFault};
 use std::alloc::Global;
 use wide_faults::fault_asides;
 
-/// The texts that are explained: the script's name, its bytes, and those of a schedule file, if one is named.
+/// The texts that are explained: the script's name, its bytes, those of a schedule file, if one is named, and the text
+/// as which a user wrote the script, if it is another one.
 #[derive(Drop)]
-struct Texts {
+struct Texts<'a> {
     name: Vec<u8>,
     script: Vec<u8>,
     schedule: Option<Vec<u8>>,
+    written: Option<PlacedScript<'a>>,
 }
 
-impl Texts {
+impl Texts<'_> {
     /// The bytes of the schedule file, if one is named.
     fn schedule(&self) -> Option<&[u8]>
         ensures { option_map (λ bytes. bytes.now) result ≡ option_map (λ bytes. bytes.items) self.now.schedule }
@@ -39,13 +43,15 @@ impl Texts {
 
     /// The texts, lent to an explanation.
     fn given(&self) -> Given<'_>
-        ensures { IsGiven result self.now.name.items self.now.script.items (option_map (λ bytes. bytes.items) self.now.schedule) }
+        ensures is { IsGiven result self.now.name.items self.now.script.items (option_map (λ bytes. bytes.items) self.now.schedule) }
+        ensures by { result.written ≡ self.now.written }
     {
         let schedule = self.schedule();
         Given {
             name: self.name.as_slice(),
             script: self.script.as_slice(),
             schedule,
+            written: self.written,
         }
     }
 }
@@ -53,11 +59,11 @@ impl Texts {
 /// Explains texts.
 fn explain_texts<W: Write>(
     alloc: Global,
-    texts: &Texts,
+    texts: &Texts<'_>,
     options: ExplainOptions,
     writer: &mut W,
 ) -> Result<bool, RunFault>
-    ensures told { IfOk result (Answered options texts.now.name.items texts.now.script.items (option_map (λ bytes. bytes.items) texts.now.schedule) (W.sink writer.old) (W.sink writer.new)) }
+    ensures told { IfOk result (Answered options texts.now.name.items texts.now.script.items (option_map (λ bytes. bytes.items) texts.now.schedule) texts.now.written (W.sink writer.old) (W.sink writer.new)) }
     ensures untold { IfErr result (Unanswered options.configuration texts.now.name.items texts.now.script.items (option_map (λ bytes. bytes.items) texts.now.schedule) (W.sink writer.old) (W.sink writer.new)) }
 {
     explain(alloc, texts.given(), options, writer)
@@ -65,18 +71,18 @@ fn explain_texts<W: Write>(
 
 /// Reads a script and explains its first fault, or its first command that is refused, or all of them; a source, which
 /// is a file whose name ends in `.cl`, is built alone. Writes the explanation and answers true, or the word `clean`,
-/// `ordered` or `ok` and answers false.
+/// `ordered` or `ok` and answers false. The lines that are told are the script's own.
 ///
 /// Faults are `Read(First)`, `BadLine`, `OutOfMemory`, and `Write`, after which a beginning of the text was written;
 /// after the others nothing was.
-pub(crate) fn explain_script<R: Read, W: Write>(
+pub(crate) fn explain_script<R: Read + Written, W: Write>(
     alloc: Global,
     name: &str,
     reader: &mut R,
     options: ExplainOptions,
     writer: &mut W,
 ) -> Result<bool, RunFault>
-    ensures told { IfOk result (ScriptTold options name.now (R.rest reader.old) (W.sink writer.old) (W.sink writer.new)) }
+    ensures told { IfOk result (ScriptTold options name.now (R.rest reader.old) (R.lines reader.new) (W.sink writer.old) (W.sink writer.new)) }
     ensures untold { IfErr result
         (ScriptUntold options.configuration name.now (R.rest reader.old) (R.failures reader.old) (R.failures reader.new) (W.sink writer.old) (W.sink writer.new)) }
 {
@@ -86,6 +92,7 @@ pub(crate) fn explain_script<R: Read, W: Write>(
         name,
         script,
         schedule: None,
+        written: reader.written(),
     };
     explain_texts(alloc, &texts, options, writer)
 }
@@ -93,14 +100,14 @@ pub(crate) fn explain_script<R: Read, W: Write>(
 /// Explains texts, and writes lines behind the explanation.
 fn explain_with<W: Write>(
     alloc: Global,
-    texts: &Texts,
+    texts: &Texts<'_>,
     options: ExplainOptions,
     asides: &[u8],
     writer: &mut W,
 ) -> Result<bool, RunFault>
-    ensures told { IfOk result (WidelyAnswered options texts.now.name.items texts.now.script.items (option_map (λ bytes. bytes.items) texts.now.schedule) asides.now (W.sink writer.old) (W.sink writer.new)) }
+    ensures told { IfOk result (WidelyAnswered options texts.now.name.items texts.now.script.items (option_map (λ bytes. bytes.items) texts.now.schedule) texts.now.written asides.now (W.sink writer.old) (W.sink writer.new)) }
     ensures untold { IfErr result
-        (WidelyUnanswered options texts.now.name.items texts.now.script.items (option_map (λ bytes. bytes.items) texts.now.schedule) asides.now (W.sink writer.old) (W.sink writer.new)) }
+        (WidelyUnanswered options texts.now.name.items texts.now.script.items (option_map (λ bytes. bytes.items) texts.now.schedule) texts.now.written asides.now (W.sink writer.old) (W.sink writer.new)) }
 {
     let answer = explain_texts(alloc, texts, options, writer)?;
     put_all(asides, writer)?;
@@ -112,25 +119,33 @@ fn explain_with<W: Write>(
 /// nothing is written.
 ///
 /// Faults are those of `explain_script`.
-pub(crate) fn explain_widely<R: Read, W: Write>(
+pub(crate) fn explain_widely<R: Read + Written, W: Write>(
     alloc: Global,
     name: &str,
     reader: &mut R,
     options: ExplainOptions,
     writer: &mut W,
 ) -> Result<bool, RunFault>
-    ensures told { IfOk result (WidelyTold options name.now (R.rest reader.old) (W.sink writer.old) (W.sink writer.new)) }
+    ensures told { IfOk result (WidelyTold options name.now (R.rest reader.old) (R.lines reader.new) (W.sink writer.old) (W.sink writer.new)) }
     ensures untold { IfErr result
-        (WidelyUntold options name.now (R.rest reader.old) (R.failures reader.old) (R.failures reader.new) (W.sink writer.old) (W.sink writer.new)) }
+        (WidelyUntold options name.now (R.rest reader.old) (R.lines reader.new) (R.failures reader.old) (R.failures reader.new) (W.sink writer.old) (W.sink writer.new)) }
 {
     let script = bytes_of(alloc, reader, Reader::First)?;
-    let asides = fault_asides(alloc, options.configuration, script.as_slice(), options.all)?;
+    let written = reader.written();
+    let asides = fault_asides(
+        alloc,
+        options.configuration,
+        script.as_slice(),
+        written,
+        options.all,
+    )?;
     let name = name.as_bytes().to_vec(alloc)?;
     let schedule = None;
     let texts = Texts {
         name,
         script,
         schedule,
+        written,
     };
     explain_with(alloc, &texts, options, asides.as_slice(), writer)
 }
@@ -139,7 +154,7 @@ pub(crate) fn explain_widely<R: Read, W: Write>(
 /// the word `no` and answers false where the schedule doesn't lead to the fault.
 ///
 /// No fault is a `NoSuchKernel`; after `Write` a beginning of the text was written, after the others nothing.
-pub(crate) fn explain_schedule<R: Read, S: Read, W: Write>(
+pub(crate) fn explain_schedule<R: Read + Written, S: Read, W: Write>(
     alloc: Global,
     name: &str,
     reader: &mut R,
@@ -147,7 +162,7 @@ pub(crate) fn explain_schedule<R: Read, S: Read, W: Write>(
     options: ExplainOptions,
     writer: &mut W,
 ) -> Result<bool, RunFault>
-    ensures told { IfOk result (FileTold options name.now (R.rest reader.old) (S.rest file.old) (W.sink writer.old) (W.sink writer.new)) }
+    ensures told { IfOk result (FileTold options name.now (R.rest reader.old) (S.rest file.old) (R.lines reader.new) (W.sink writer.old) (W.sink writer.new)) }
     ensures untold { IfErr result
         (FileUntold options.configuration name.now (R.rest reader.old) (S.rest file.old) (R.failures reader.old) (R.failures reader.new) (S.failures file.old) (S.failures file.new)
         (W.sink writer.old) (W.sink writer.new)) }
@@ -159,6 +174,7 @@ pub(crate) fn explain_schedule<R: Read, S: Read, W: Write>(
         name,
         script,
         schedule: Some(schedule),
+        written: reader.written(),
     };
     explain_texts(alloc, &texts, options, writer)
 }

@@ -2,8 +2,9 @@
 //!
 //! It calls `cli`, `explaining`, `exploring` and `wide_text` with the files, the clock and the output of the system; a
 //! file named `-` is standard input. A script of version 3 is handed on as its plain text, which `written_scripts`
-//! makes of it and of the files that it names. The status is the one that `cli` defines, whether standard error can be
-//! written or not; the process ends with 0, 1 or 2. What stands on standard error is only tested.
+//! makes of it and of the files that it names; `explain` and `widen` tell the lines of the script itself. The status
+//! is the one that `cli` defines, whether standard error can be written or not; the process ends with 0, 1 or 2. What
+//! stands on standard error is only tested.
 #![tactic(auto)]
 
 ghost use Rattle.std.specs.Prelude.{◌≡◌, ◌≤◌, IfOk, if◌then◌else◌};
@@ -19,6 +20,7 @@ mod deadline;
 mod explain_files;
 mod looks;
 mod named_file;
+mod own_lines;
 mod passing;
 mod piped;
 mod progress;
@@ -31,6 +33,7 @@ use crate::deadline::Deadline;
 use crate::explain_files::{explain_schedule, explain_script, explain_widely};
 use crate::looks::Looks;
 use crate::named_file::{NamedFile, STANDARD_INPUT};
+use crate::own_lines::Written;
 use crate::passing::pass;
 use crate::piped::Piped;
 use crate::progress::Progress;
@@ -275,6 +278,7 @@ fn widen_script<R: Files + io::Input + Print + AllocGlobal>(
         rt.alloc(),
         configuration,
         text.as_slice(),
+        script.written(),
         format,
         &mut writer,
     );
@@ -499,9 +503,6 @@ fn do_explain<R: Files + io::Input + Print + Eprint + AllocGlobal>(
     let options = options_of(wish);
     let wide = wish.widen && !script.is_source();
     let outcome = explain_fault(rt, file, &mut script, schedule, options, wide, &mut gone);
-    if let Ok(true) = outcome {
-        script.tell_lines(rt);
-    }
     end_replay(rt, outcome, schedule.unwrap_or(file), script.told(gone))
 }
 
@@ -517,9 +518,6 @@ fn do_widen<R: Files + io::Input + Print + Eprint + AllocGlobal>(
     let mut script = WrittenFile::new(rt, file);
     let mut gone = false;
     let outcome = widen_script(rt, &mut script, json, limits, &mut gone);
-    if outcome.is_ok() {
-        script.tell_lines(rt);
-    }
     end_widen(rt, outcome, script.told(gone))
 }
 

@@ -58,14 +58,6 @@ fn tell_reason<R: Files + Eprint>(rt: &R, file: &str) {
     }
 }
 
-/// Tells of a script of version 3 that the lines that were told are those of its plain text.
-pub(crate) fn tell_plain(rt: &impl Eprint, file: &str) {
-    let name = name_of(file);
-    let _ = eprintln!(rt;
-        "clsim: {name} is of version 3: the lines are those of its plain text, clsim plain {file}"
-    );
-}
-
 /// Tells which line of a script of version 3 is bad, and where it stands.
 fn tell_bad(rt: &impl Eprint, name: &str, place: Place) {
     let _ = eprintln!(rt;

@@ -2,20 +2,25 @@
 //! and turned into a plain one. Any other text stays as it is.
 #![tactic(auto)]
 
-ghost use Rattle.std.specs.Prelude.{◌≡◌, false, None, IfOk, IfErr};
+ghost use Rattle.std.specs.Prelude.{◌≡◌, None, Some, IfOk, IfErr, map, is_some};
+ghost use Rattle.clsim.specs.OwnLines.{AreLent, AreNamed, IsOwnOf};
 ghost use Rattle.clsim.specs.Plain.{IsPlainOf, Unturned};
 
 use crate::named_file::{NamedFile, STANDARD_INPUT, read_path};
-use crate::reporting::{Place, Told, tell_plain};
+use crate::own_lines::{OwnLines, Written, own_places};
+use crate::reporting::{Place, Told};
 use crate::shows::{ReplyStyle, text_shows, written_shows};
 use cli::{Read, ReadFault};
 use clmodel::text::Bytes;
+use placed_scripts::PlacedScript;
 use showing::Shown;
 use simfile::faults::RunFault;
 use std::alloc::{AllocError, AllocFailed, Global};
 use std::rt::Files;
 use std::{io, str};
-use written_scripts::{NamedFile as SourceFile, Turned, WrittenPlace, files_of, plain_script};
+use written_scripts::{
+    NamedFile as SourceFile, PlainScript, Turned, WrittenPlace, files_of, plain_script,
+};
 
 /// Why a script has no plain text.
 #[derive(Drop)]
@@ -135,40 +140,94 @@ fn place_in(script: &[u8], number: usize) -> Place
     }
 }
 
-/// The plain text of a script, and where in a script of version 3 its commands stand.
+/// The plain text of a script, and of a script of version 3 where its commands stand, and the script itself.
 #[derive(Drop)]
 struct PlainText {
     text: Vec<u8>,
     places: Option<Vec<WrittenPlace>>,
-    /// Whether it is another text than the script
-    is_other: bool,
+    own: Option<OwnLines>,
 }
 
 /// A text that is given as it is.
 fn as_it_is(text: Vec<u8>) -> PlainText
-    ensures { result ≡ record { text = text; places = None; is_other = false } }
+    ensures { result ≡ record { text = text; places = None; own = None } }
 {
     PlainText {
         text,
         places: None,
-        is_other: false,
+        own: None,
     }
 }
 
-/// The plain text of a script with its files. Of a script with a bad line the error is the lowest one.
-fn plain_of(alloc: Global, script: Vec<u8>, files: &[SourceFile]) -> Result<PlainText, NoPlainText>
+/// The name of the file that has the source of a command, where its line names one, which is in the script's folder.
+fn file_of(
+    alloc: Global,
+    folder: Option<&str>,
+    place: &WrittenPlace,
+) -> Result<Option<Bytes>, AllocError>
+    ensures { IfOk result (λ file. is_some file ≡ is_some place.now.file) }
+{
+    let Some(path) = &place.file else {
+        return Ok(None);
+    };
+    let Ok(text) = str::from_utf8(path.as_slice()) else {
+        return Ok(Some(Bytes::copy_of(alloc, path.as_slice())?));
+    };
+    let name = name_beside(alloc, folder, text)?;
+    Ok(Some(Bytes::copy_of(alloc, name.as_bytes())?))
+}
+
+/// The names of the files that have the sources of commands, where their lines name one.
+fn files_at(
+    alloc: Global,
+    folder: Option<&str>,
+    places: &[WrittenPlace],
+) -> Result<Vec<Option<Bytes>>, AllocError>
+    ensures { IfOk result (λ files. AreNamed places.now files.items) }
+{
+    let mut files = Vec::new(alloc);
+    for place in places {
+        files.push(file_of(alloc, folder, place)?)?;
+    }
+    Ok(files)
+}
+
+/// A plain text, with the script of version 3 in a folder of which it was made.
+fn with_own(
+    alloc: Global,
+    folder: Option<&str>,
+    script: Vec<u8>,
+    plain: PlainScript,
+) -> Result<PlainText, AllocError>
+    ensures text { IfOk result (λ made. made.text ≡ plain.text) }
+    ensures places { IfOk result (λ made. made.places ≡ Some plain.places) }
+    ensures own { IfOk result (λ made. IsOwnOf script.items plain.places.items made.own) }
+{
+    let places = own_places(alloc, script.as_slice(), plain.places.as_slice())?;
+    let files = files_at(alloc, folder, plain.places.as_slice())?;
+    Ok(PlainText {
+        text: plain.text,
+        places: Some(plain.places),
+        own: Some(OwnLines {
+            text: script,
+            places,
+            files,
+        }),
+    })
+}
+
+/// The plain text of a script in a folder, with its files. Of a script with a bad line the error is the lowest one.
+fn plain_of(
+    alloc: Global,
+    folder: Option<&str>,
+    script: Vec<u8>,
+    files: &[SourceFile],
+) -> Result<PlainText, NoPlainText>
     ensures plain { IfOk result (IsPlainOf files.now script.items) }
     ensures unturned { IfErr result (Unturned files.now script.items) }
 {
     match plain_script(alloc, script.as_slice(), files)? {
-        Turned::Plain(plain) => {
-            let is_other = plain.text.as_slice() != script.as_slice();
-            Ok(PlainText {
-                text: plain.text,
-                places: Some(plain.places),
-                is_other,
-            })
-        }
+        Turned::Plain(plain) => Ok(with_own(alloc, folder, script, plain)?),
         Turned::BadLine(number) => Err(NoPlainText::Bad(place_in(script.as_slice(), number))),
         Turned::Other => Ok(as_it_is(script)),
     }
@@ -185,7 +244,7 @@ pub(crate) struct WrittenFile<'a, R> {
     missing: Option<String>,
     bad: Option<Place>,
     places: Option<Vec<WrittenPlace>>,
-    is_other: bool,
+    own: Option<OwnLines>,
 }
 
 impl<'a, R: Files + io::Input> WrittenFile<'a, R> {
@@ -199,7 +258,7 @@ impl<'a, R: Files + io::Input> WrittenFile<'a, R> {
             missing: None,
             bad: None,
             places: None,
-            is_other: false,
+            own: None,
         }
     }
 
@@ -213,13 +272,6 @@ impl<'a, R: Files + io::Input> WrittenFile<'a, R> {
     /// Whether it is a source by its name.
     pub(crate) fn is_source(&self) -> bool {
         self.is_source
-    }
-
-    /// Tells of a script of version 3 that the lines that were told are those of its plain text, where it is another.
-    pub(crate) fn tell_lines(&self, rt: &impl Eprint) {
-        if self.is_other {
-            tell_plain(rt, self.file.path());
-        }
     }
 
     /// How the replies to the commands of the text that was read are shown: by the places of a script of version 3, or
@@ -268,7 +320,7 @@ impl<'a, R: Files + io::Input> WrittenFile<'a, R> {
         }
         let folder = folder_of(self.file.path());
         let files = files_beside(self.rt, alloc, folder, script.as_slice())?;
-        plain_of(alloc, script, files.as_slice())
+        plain_of(alloc, folder, script, files.as_slice())
     }
 }
 
@@ -281,7 +333,7 @@ impl<R: Files + io::Input> Read for WrittenFile<'_, R> {
         match self.read(alloc) {
             Ok(plain) => {
                 self.places = plain.places;
-                self.is_other = plain.is_other;
+                self.own = plain.own;
                 return Ok(plain.text);
             }
             Err(NoPlainText::OutOfMemory) => return Err(ReadFault::OutOfMemory),
@@ -291,5 +343,16 @@ impl<R: Files + io::Input> Read for WrittenFile<'_, R> {
         }
         self.failures = self.failures.saturating_add(1);
         Err(ReadFault::Failed)
+    }
+}
+
+impl<R: Files + io::Input> Written for WrittenFile<'_, R> {
+    ghost lines = { λ file. file.own };
+
+    fn written(&self) -> Option<PlacedScript<'_>> {
+        match &self.own {
+            Some(own) => Some(own.lent()),
+            None => None,
+        }
     }
 }

@@ -144,8 +144,8 @@ why_depth why d are =
     let whole : depth (array (items_of (reasons_data why are.sentences))) ≤ 4 = omega arith in
     subst (λ (x : Data). depth x ≤ 4) (sym are.is) whole
 
-pub explanation_depth : (e : Explanation) (why : Data) → AreReasons e.why.items why → depth (explanation_data e why) ≤ 6
-explanation_depth e why are =
+pub explanation_depth : (e : Explanation) (source : List ℕ) (why : Data) → AreReasons e.why.items why → depth (explanation_data e source why) ≤ 6
+explanation_depth e source why are =
     let items : items_depth (items_of (map item_data e.items.items)) ≤ 4 = many item_data 4 item_depth e.items.items in
     let launch : depth (launch_data e.launch) ≤ 2 = launch_depth e.launch in
     let memory : depth (or_null memory_data e.memory) ≤ 3 = some memory_data 3 memory_depth e.memory in

@@ -98,8 +98,8 @@ reasons_whole [] texts = refl
 reasons_whole (r ∷ why) [] = refl
 reasons_whole (r ∷ why) (text ∷ texts) = rw (reason_whole r text, reasons_whole why texts)
 
-pub explanation_whole : (e : Explanation) (why : Data) → AreReasons e.why.items why → has_float (explanation_data e why) ≡ false
-explanation_whole e why are =
+pub explanation_whole : (e : Explanation) (source : List ℕ) (why : Data) → AreReasons e.why.items why → has_float (explanation_data e source why) ≡ false
+explanation_whole e source why are =
     let reasons : has_float why ≡ false = ap has_float are.is ∙ reasons_whole e.why.items are.sentences in
     rw (many item_data item_whole e.items.items, launch_whole e.launch, some memory_data memory_whole e.memory, many step_data step_whole e.steps.items, reasons)
 

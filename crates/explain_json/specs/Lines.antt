@@ -12,13 +12,13 @@ pub record IsLine (d : Data) (json : List ℕ) : Type 0 where
   pub is : json ≡ compact_text d ++ 10 ∷ []
   pub reads : read (compact_text d) ≡ Some d
 
--- the value of an explanation, with a sentence for each of its reasons
-pub record IsExplanationData (e : Explanation) (d : Data) : Type 0 where
+-- the value of an explanation whose source stands in a file of this name, with a sentence for each of its reasons
+pub record IsExplanationData (e : Explanation) (source : List ℕ) (d : Data) : Type 0 where
   pub why : Data
   pub reasons : AreReasons e.why.items why
-  pub is : d ≡ explanation_data e why
+  pub is : d ≡ explanation_data e source why
 
-pub record IsExplanationLine (e : Explanation) (json : List ℕ) : Type 0 where
+pub record IsExplanationLine (e : Explanation) (source json : List ℕ) : Type 0 where
   pub value : Data
-  pub is : IsExplanationData e value
+  pub is : IsExplanationData e source value
   pub line : IsLine value json

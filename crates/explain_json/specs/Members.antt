@@ -164,10 +164,10 @@ abbrev pub fault_data : FaultFacts → Data
 fault_data f =
     object (member (codes "line") (text_data f.line) (member (codes "name") (text_data f.name) (member (codes "number") (number_data f.number) no_members)))
 
--- with the reasons as they are told
-abbrev pub explanation_data : Explanation → Data → Data
-explanation_data e why =
+-- with the name of the file in which its source stands, and the reasons as they are told
+abbrev pub explanation_data : Explanation → List ℕ → Data → Data
+explanation_data e source why =
     object (member (codes "fault") (fault_data e.fault) (member (codes "items") (list_data item_data e.items.items) (member (codes "launch") (launch_data e.launch)
     (member (codes "memory") (or_null memory_data e.memory) (member (codes "schedule") (schedule_data e.schedule) (member (codes "script") (text_data e.script)
-    (member (codes "steps") (list_data step_data e.steps.items) (member (codes "version") (number_data 3)
-    (member (codes "why") why no_members)))))))))
+    (member (codes "source") (string source) (member (codes "steps") (list_data step_data e.steps.items) (member (codes "version") (number_data 3)
+    (member (codes "why") why no_members))))))))))

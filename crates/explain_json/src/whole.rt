@@ -49,15 +49,16 @@ impl ToJson for FaultFacts {
     }
 }
 
-/// An explanation as a JSON value.
-pub fn value_of(alloc: Global, whole: &Explanation) -> Result<Value, AllocError>
-    ensures { IfOk result (λ value. IsExplanationData whole.now (view value)) }
+/// An explanation, whose source stands in a file of this name, as a JSON value.
+pub fn value_of(alloc: Global, whole: &Explanation, source: &str) -> Result<Value, AllocError>
+    ensures { IfOk result (λ value. IsExplanationData whole.now source.now (view value)) }
 {
     let why = reasons_value(alloc, whole.why.as_slice())?;
     Object::new(alloc)
         .with_value("why", Ok(why))
         .with("version", &VERSION)
         .with("steps", &whole.steps)
+        .with_text("source", source)
         .with("script", &whole.script)
         .with("schedule", &whole.schedule)
         .with("memory", &whole.memory)
@@ -67,11 +68,12 @@ pub fn value_of(alloc: Global, whole: &Explanation) -> Result<Value, AllocError>
         .finish()
 }
 
-/// An explanation as one line of JSON, which the writer makes of its value, and which reads back as this value.
-pub fn json_of(alloc: Global, whole: &Explanation) -> Result<String, AllocError>
-    ensures { IfOk result (λ json. IsExplanationLine whole.now (string_bytes json)) }
+/// An explanation, whose source stands in a file of this name, as one line of JSON, which the writer makes of its
+/// value, and which reads back as this value.
+pub fn json_of(alloc: Global, whole: &Explanation, source: &str) -> Result<String, AllocError>
+    ensures { IfOk result (λ json. IsExplanationLine whole.now source.now (string_bytes json)) }
 {
-    let value = value_of(alloc, whole)?;
+    let value = value_of(alloc, whole, source)?;
     let mut text = value.to_string(alloc)?;
     text.push('\n')?;
     Ok(text)

@@ -30,19 +30,27 @@ pub fn refusal_words(refusal: Refusal) -> (u32, &'static str)
     }
 }
 
-/// The byte of a line, from 0, at which the word of a number begins, from 0 too. Words are separated by one blank each.
-/// Where there are fewer words it is the line's end.
+/// Whether a byte of a line is a blank, of which words have any number round them.
+fn is_blank(byte: u8) -> bool {
+    matches!(byte, b' ' | b'\t' | b'\r')
+}
+
+/// The byte of a line, from 0, at which the word of a number begins, from 0 too. Where there are fewer words it is the
+/// line's end.
 fn begin_of(line: &[u8], word: usize) -> usize
     ensures { result ≤ length line.now }
 {
     let mut left = word;
+    let mut between = true;
     for (at, byte) in line.iter().enumerate() {
-        if left == 0 {
-            return at;
-        }
-        if *byte == b' ' {
+        let blank = is_blank(*byte);
+        if between && !blank {
+            if left == 0 {
+                return at;
+            }
             left -= 1;
         }
+        between = blank;
     }
     line.len()
 }
@@ -52,7 +60,7 @@ fn length_of(rest: &[u8]) -> usize
     ensures { result ≤ length rest.now }
 {
     for (at, byte) in rest.iter().enumerate() {
-        if *byte == b' ' {
+        if is_blank(*byte) {
             return at;
         }
     }

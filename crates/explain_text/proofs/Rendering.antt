@@ -70,12 +70,12 @@ one_sentence_more why reason old sentence new are is e = record {
 
 -- an explanation by the parts that were added to nothing
 pub whole_added :
-    (e : Explanation) (title title' launch launch' items items' why why' steps steps' schedule first second third fourth text : List ℕ) → IsOneLine title' → title ≡ title'
-    → AreLines (1 + length (parameters_of e.memory)) launch' → launch ≡ launch' → AreItems (string_bytes e.script) e.items.items items' → items ≡ items' → AreSentences e.why.items why' → why ≡ why'
+    (e : Explanation) (source title title' launch launch' items items' why why' steps steps' schedule first second third fourth text : List ℕ) → IsOneLine title' → title ≡ title'
+    → AreLines (1 + length (parameters_of e.memory)) launch' → launch ≡ launch' → AreItems source e.items.items items' → items ≡ items' → AreSentences e.why.items why' → why ≡ why'
     → AreSteps e steps' → steps ≡ steps' → schedule ≡ string_bytes e.schedule.short → first ≡ codes "fault " ++ decimal e.fault.number ++ codes " " ++ title ++ codes "\n"
     → second ≡ first ++ (launch ++ codes "\n") → third ≡ second ++ (items ++ codes "\n") → fourth ≡ third ++ (why ++ steps)
-    → text ≡ fourth ++ (codes "  schedule " ++ schedule ++ codes " (replayed: yes)\n") → IsText e text
-whole_added e title title' launch launch' items items' why why' steps steps' schedule first second third fourth text in_line is_title launched is_launch are is_items are_why is_why are_steps is_steps is_schedule at_first at_second at_third at_fourth at_end =
+    → text ≡ fourth ++ (codes "  schedule " ++ schedule ++ codes " (replayed: yes)\n") → IsText e source text
+whole_added e source title title' launch launch' items items' why why' steps steps' schedule first second third fourth text in_line is_title launched is_launch are is_items are_why is_why are_steps is_steps is_schedule at_first at_second at_third at_fourth at_end =
     record {
       title = title;
       launch = launch;
@@ -84,7 +84,7 @@ whole_added e title title' launch launch' items items' why why' steps steps' sch
       steps = steps;
       in_line = subst (λ (t : List ℕ). IsOneLine t) (sym is_title) in_line;
       launched = subst (λ (t : List ℕ). AreLines (1 + length (parameters_of e.memory)) t) (sym is_launch) launched;
-      are_items = subst (λ (t : List ℕ). AreItems (string_bytes e.script) e.items.items t) (sym is_items) are;
+      are_items = subst (λ (t : List ℕ). AreItems source e.items.items t) (sym is_items) are;
       are_sentences = subst (λ (t : List ℕ). AreSentences e.why.items t) (sym is_why) are_why;
       are_steps = subst (λ (t : List ℕ). AreSteps e t) (sym is_steps) are_steps;
       whole =

@@ -175,9 +175,9 @@ abbrev pub parameters_of : Option Memory → List ParameterFacts
 parameters_of None = []
 parameters_of (Some memory) = memory.parameters.items
 
--- a text of an explanation: the fault, its launch and its parameters in a line each, the items, the reasons, the steps
--- and the schedule
-pub record IsText (e : Explanation) (text : List ℕ) : Type 0 where
+-- a text of an explanation whose source stands in a file of this name: the fault, its launch and its parameters in a
+-- line each, the items, the reasons, the steps and the schedule
+pub record IsText (e : Explanation) (source text : List ℕ) : Type 0 where
   pub title : List ℕ
   pub launch : List ℕ
   pub items : List ℕ
@@ -185,7 +185,7 @@ pub record IsText (e : Explanation) (text : List ℕ) : Type 0 where
   pub steps : List ℕ
   pub in_line : IsOneLine title
   pub launched : AreLines (1 + length (parameters_of e.memory)) launch
-  pub are_items : AreItems (string_bytes e.script) e.items.items items
+  pub are_items : AreItems source e.items.items items
   pub are_sentences : AreSentences e.why.items why
   pub are_steps : AreSteps e steps
   pub whole : text ≡ (codes "fault " ++ decimal e.fault.number ++ codes " " ++ title ++ codes "\n") ++ (launch ++ codes "\n") ++ (items ++ codes "\n") ++ (why ++ steps)

@@ -159,30 +159,34 @@ fn word_of(number: u32, place: usize) -> &'static str
 fn push_item(
     alloc: Global,
     whole: &Explanation,
+    source: &str,
     place: usize,
     item: &NamedItem,
     out: &mut String,
 ) -> Result<(), AllocError>
-    ensures { OnOk result ((text : List ℕ) × IsItemText (string_bytes whole.now.script) item.now text × (string_bytes out.new ≡ string_bytes out.old ++ text)) }
+    ensures { OnOk result ((text : List ℕ) × IsItemText source.now item.now text × (string_bytes out.new ≡ string_bytes out.old ++ text)) }
 {
-    let script = whole.script.as_str();
     let ids = ids_text(alloc, item.item, &item.ids)?;
     let deed = deed_text(alloc, whole, item)?;
-    let spot = spot_text(alloc, script, &item.spot)?;
-    let last = last_text(alloc, script, &item.last)?;
+    let spot = spot_text(alloc, source, &item.spot)?;
+    let last = last_text(alloc, source, &item.last)?;
     let word = word_of(whole.fault.number, place);
     push_first_line(word, ids.as_str(), deed.as_str(), out)?;
     push_both(spot.as_str(), last.as_str(), out)?;
     Ok(())
 }
 
-/// The items.
-pub(crate) fn items_text(alloc: Global, whole: &Explanation) -> Result<String, AllocError>
-    ensures { IfOk result (λ text. AreItems (string_bytes whole.now.script) whole.now.items.items (string_bytes text)) }
+/// The items, whose places are in a source that stands in a file of this name.
+pub(crate) fn items_text(
+    alloc: Global,
+    whole: &Explanation,
+    source: &str,
+) -> Result<String, AllocError>
+    ensures { IfOk result (λ text. AreItems source.now whole.now.items.items (string_bytes text)) }
 {
     let mut out = String::new(alloc);
     for (place, item) in whole.items.as_slice().iter().enumerate() {
-        push_item(alloc, whole, place, item, &mut out)?;
+        push_item(alloc, whole, source, place, item, &mut out)?;
     }
     Ok(out)
 }

@@ -197,13 +197,13 @@ fn push_schedule(schedule: &str, out: &mut String) -> Result<(), AllocError>
     write!(out, "  schedule {schedule} (replayed: yes)\n")
 }
 
-/// An explanation as text.
-pub fn text_of(alloc: Global, whole: &Explanation) -> Result<String, AllocError>
-    ensures { IfOk result (λ text. IsText whole.now (string_bytes text)) }
+/// An explanation as text. Its places are in a source that stands in a file of this name.
+pub fn text_of(alloc: Global, whole: &Explanation, source: &str) -> Result<String, AllocError>
+    ensures { IfOk result (λ text. IsText whole.now source.now (string_bytes text)) }
 {
     let title = title_text(alloc, whole)?;
     let launch = launch_text(alloc, whole)?;
-    let items = items_text(alloc, whole)?;
+    let items = items_text(alloc, whole, source)?;
     let why = reasons_text(alloc, whole.why.as_slice())?;
     let steps = steps_text(alloc, whole)?;
     let mut out = String::new(alloc);

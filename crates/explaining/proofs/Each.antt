@@ -1,5 +1,5 @@
 -- Each reply of a script that is a fault or a refusal, told.
-use Rattle.std.proofs.Common.{◌≡◌, ◌||◌, ◌++◌, ◌∷◌, [], ◌∙◌, ℕ, Bool, true, false, ◌⊎◌, List, Some, length, inl, inr, refl, sym, ap, subst, append_assoc}
+use Rattle.std.proofs.Common.{◌≡◌, ◌||◌, ◌++◌, ◌∷◌, [], ◌∙◌, ℕ, Bool, true, false, ◌⊎◌, List, Option, Some, length, inl, inr, refl, sym, ap, subst, append_assoc}
 use Rattle.std.specs.Prelude.{MatchBool, slice_get}
 use Rattle.std.proofs.lemmas.Bool.{false≢true}
 use Rattle.std.proofs.lemmas.List.{append-nil}
@@ -11,6 +11,8 @@ use Rattle.host_commands.specs.declared.command.Refusal.{Refusal}
 use Rattle.host_commands.specs.declared.command.Refusal.TheVariants as refusal
 use Rattle.host_commands.specs.declared.command.Reply.{Reply}
 use Rattle.host_commands.specs.declared.command.Reply.TheVariants as reply
+use Rattle.placed_scripts.specs.Placed.{IsTold}
+use Rattle.placed_scripts.specs.declared.placed.PlacedScript.{PlacedScript}
 use Rattle.limits.specs.declared.Configuration.{Configuration}
 use Rattle.simfile.specs.Script.{IsScript}
 use Rattle.explaining.proofs.Performing.{cleanly, first_behind, get_behind, through_more}
@@ -51,7 +53,7 @@ stands_at commands before new c ticket r w ends at step = go w ends
 
 -- what is told of the end of a walk is told of the reply
 tells_reply :
-    (options : ExplainOptions) (name script : List ℕ) (commands : List Command) (done : List Bool) (m : Machine) (ticket : ℕ) (r : Reply) (w : Walked) (text : List ℕ) → EndsAt ticket r w
+    (options : ExplainOptions) (name : List ℕ) (script : PlacedScript) (commands : List Command) (done : List Bool) (m : Machine) (ticket : ℕ) (r : Reply) (w : Walked) (text : List ℕ) → EndsAt ticket r w
     → TellsEnd options name script commands done m w text → TellsReply options name script commands done m ticket r text
 tells_reply options name script commands done m ticket r (walked.Passed ordered) text h tells = absurd h
 tells_reply options name script commands done m ticket r (walked.Faulted case) text (same, is) tells =
@@ -66,7 +68,7 @@ tells_reply options name script commands done m ticket r (walked.Refused case) t
 
 -- of a reply that goes on nothing is told
 pub goes_told :
-    (options : ExplainOptions) (name script : List ℕ) (commands : List Command) (done all : List Bool) (old : Machine) (c : Command) (new : Machine) (r : Reply) (text : List ℕ) (met met' : Met)
+    (options : ExplainOptions) (name : List ℕ) (script : PlacedScript) (commands : List Command) (done all : List Bool) (old : Machine) (c : Command) (new : Machine) (r : Reply) (text : List ℕ) (met met' : Met)
     → Step old c r new → HadMemory r → all ≡ done ++ is_done r ∷ [] → goes_on r ≡ true → met'.end ≡ met.end → met'.ordered ≡ (met.ordered || is_ordered r)
     → TellsCommand options name script commands done old c new all text text met met'
 goes_told options name script commands done all old c new r text met met' step memory noted on same ordered = record {
@@ -84,7 +86,7 @@ goes_told options name script commands done all old c new r text met met' step m
 
 -- and of another one what is told of the end of a walk
 pub end_told :
-    (options : ExplainOptions) (name script : List ℕ) (commands : List Command) (done all : List Bool) (ticket : ℕ) (old : Machine) (c : Command) (new : Machine) (r : Reply) (w : Walked) (before after : List ℕ) (met met' : Met)
+    (options : ExplainOptions) (name : List ℕ) (script : PlacedScript) (commands : List Command) (done all : List Bool) (ticket : ℕ) (old : Machine) (c : Command) (new : Machine) (r : Reply) (w : Walked) (before after : List ℕ) (met met' : Met)
     → Step old c r new → HadMemory r → all ≡ done ++ is_done r ∷ [] → ticket ≡ length done → EndsAt ticket r w → IsEndAdded options name script commands all new ticket w before after
     → met'.end ≡ true → met'.ordered ≡ (met.ordered || is_ordered r) → TellsCommand options name script commands done old c new all before after met met'
 end_told options name script commands done all ticket old c new r w before after met met' step memory noted same ends told turned ordered = record {
@@ -111,7 +113,7 @@ end_told options name script commands done all ticket old c new r w before after
 
 -- one command more is told
 pub each_more :
-    (options : ExplainOptions) (name script : List ℕ) (commands : List Command) (first_done : List Bool) (old now new : Machine) (done : List Command) (c : Command) (r : Reply) (all : List Bool) (text part whole : List ℕ)
+    (options : ExplainOptions) (name : List ℕ) (script : PlacedScript) (commands : List Command) (first_done : List Bool) (old now new : Machine) (done : List Command) (c : Command) (r : Reply) (all : List Bool) (text part whole : List ℕ)
     → TellsEach options name script commands first_done old done now all text → Step now c r new → HadMemory r → TellsAny options name script commands (all ++ is_done r ∷ []) new (length all) r part
     → whole ≡ text ++ part → TellsEach options name script commands first_done old (done ++ c ∷ []) new (all ++ is_done r ∷ []) whole
 each_more options name script commands first_done old now new [] c r all text part whole (same, kept, empty) step memory tells added = (
@@ -139,7 +141,7 @@ each_more options name script commands first_done old now new (d ∷ done) c r a
 
 -- a command is told behind others
 pub command_more :
-    (options : ExplainOptions) (name script : List ℕ) (commands : List Command) (old now new : Machine) (done : List Command) (c : Command) (flags all : List Bool) (text whole : List ℕ) (met met' : Met)
+    (options : ExplainOptions) (name : List ℕ) (script : PlacedScript) (commands : List Command) (old now new : Machine) (done : List Command) (c : Command) (flags all : List Bool) (text whole : List ℕ) (met met' : Met)
     → TellsEach options name script commands [] old done now flags text → TellsCommand options name script commands flags now c new all text whole met met'
     → TellsEach options name script commands [] old (done ++ c ∷ []) new all whole
 command_more options name script commands old now new done c flags all text whole met met' each told =
@@ -149,7 +151,7 @@ command_more options name script commands old now new done c flags all text whol
 
 -- and whether a fault or a refusal was met
 pub met_more :
-    (options : ExplainOptions) (name script : List ℕ) (all : List Command) (old now new : Machine) (commands done rest : List Command) (c : Command) (flags flags' : List Bool) (text whole : List ℕ) (met met' : Met)
+    (options : ExplainOptions) (name : List ℕ) (script : PlacedScript) (all : List Command) (old now new : Machine) (commands done rest : List Command) (c : Command) (flags flags' : List Bool) (text whole : List ℕ) (met met' : Met)
     → commands ≡ done ++ c ∷ rest → IsMet old commands done now met.end met.ordered → TellsCommand options name script all flags now c new flags' text whole met met'
     → IsMet old commands (done ++ c ∷ []) new met'.end met'.ordered
 met_more options name script all old now new commands done rest c flags flags' text whole met met' split so_far told = go (goes_on told.answer) refl met.end so_far told.stays
@@ -199,25 +201,28 @@ found_all configuration script commands same first m met answer is equal opened 
     (subst (λ (s : Machine). IsMet s commands commands m met.end met.ordered) opened (subst (λ (l : List Command). IsMet first l l m met.end met.ordered) equal h)))
 
 pub says_all :
-    (options : ExplainOptions) (name script : List ℕ) (commands same : List Command) (done : List Bool) (first m : Machine) (met : Met) (answer : Bool) (told text : List ℕ) → IsScript script commands
-    → same ≡ commands → first ≡ opening options.configuration → TellsEach options name script commands [] first same m done told → IsMet first same same m met.end met.ordered → answer ≡ met.end
-    → (met.end ≡ true → text ≡ told) → (met.end ≡ false → text ≡ word_of met.ordered) → SaysAll options name script answer text
-says_all options name script commands same done first m met answer told text is equal opened each h answered some none =
-    subst (λ y. SaysAll options name script y text) (sym answered)
+    (options : ExplainOptions) (name script : List ℕ) (written : Option PlacedScript) (by : PlacedScript) (commands same : List Command) (done : List Bool) (first m : Machine) (met : Met) (answer : Bool) (told text : List ℕ) → IsScript script commands
+    → IsTold script commands written by
+    → same ≡ commands → first ≡ opening options.configuration → TellsEach options name by commands [] first same m done told → IsMet first same same m met.end met.ordered → answer ≡ met.end
+    → (met.end ≡ true → text ≡ told) → (met.end ≡ false → text ≡ word_of met.ordered) → SaysAll options name script written answer text
+says_all options name script written by commands same done first m met answer told text is lines equal opened each h answered some none =
+    subst (λ y. SaysAll options name script written y text) (sym answered)
     (go met.end (subst (λ (s : Machine). IsMet s commands commands m met.end met.ordered) opened (subst (λ (l : List Command). IsMet first l l m met.end met.ordered) equal h)) some none)
   where
-    here : TellsEach options name script commands [] (opening options.configuration) commands m done told
+    here : TellsEach options name by commands [] (opening options.configuration) commands m done told
     here =
-        subst (λ (s : Machine). TellsEach options name script commands [] s commands m done told) opened
-        (subst (λ (l : List Command). TellsEach options name script commands [] first l m done told) equal each)
+        subst (λ (s : Machine). TellsEach options name by commands [] s commands m done told) opened
+        (subst (λ (l : List Command). TellsEach options name by commands [] first l m done told) equal each)
 
     go :
-        (b : Bool) → IsMet (opening options.configuration) commands commands m b met.ordered → (b ≡ true → text ≡ told) → (b ≡ false → text ≡ word_of met.ordered) → SaysAll options name script b text
+        (b : Bool) → IsMet (opening options.configuration) commands commands m b met.ordered → (b ≡ true → text ≡ told) → (b ≡ false → text ≡ word_of met.ordered) → SaysAll options name script written b text
     go true h some none = record {
       commands = commands;
       machine = m;
       done = done;
       is = is;
-      each = subst (λ (t : List ℕ). TellsEach options name script commands [] (opening options.configuration) commands m done t) (sym (some refl)) here;
+      by = by;
+      lines = lines;
+      each = subst (λ (t : List ℕ). TellsEach options name by commands [] (opening options.configuration) commands m done t) (sym (some refl)) here;
     }
     go false h some none = record { commands = commands; machine = m; ordered = met.ordered; is = is; led = h; says = none refl }

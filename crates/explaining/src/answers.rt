@@ -36,13 +36,18 @@ pub(crate) fn word_answer(alloc: Global, word: &str) -> Result<Answer, AllocErro
     Ok(Answer { text, yes: false })
 }
 
-/// The text of an explanation in a format.
-fn written(alloc: Global, whole: &Explanation, format: Format) -> Result<String, AllocError>
-    ensures { IfOk result (λ text. IsTextOf format whole.now (string_bytes text)) }
+/// The text of an explanation in a format, whose source stands in a file of this name.
+fn written(
+    alloc: Global,
+    whole: &Explanation,
+    source: &str,
+    format: Format,
+) -> Result<String, AllocError>
+    ensures { IfOk result (λ text. IsTextOf format whole.now source.now (string_bytes text)) }
 {
     match format {
-        Format::Text => text_of(alloc, whole),
-        Format::Json => json_of(alloc, whole),
+        Format::Text => text_of(alloc, whole, source),
+        Format::Json => json_of(alloc, whole, source),
     }
 }
 
@@ -59,7 +64,7 @@ pub(crate) fn answer_of(
     let Some(told) = told else {
         return word_answer(alloc, word);
     };
-    let text = written(alloc, &told.whole, format)?;
+    let text = written(alloc, &told.whole, told.source.as_str(), format)?;
     Ok(Answer { text, yes: true })
 }
 

@@ -13,8 +13,8 @@ use device::{BuildFault, Command};
 use explain_json::refused_json;
 use host_commands::build::{NotBuilt, build};
 use limits::Limits;
+use placed_scripts::PlacedScript;
 use simfile::faults::RunFault;
-use simfile::script::CommandPlace;
 use std::alloc::{AllocError, Global};
 
 /// Turns the fault of a build into the one that a refusal is written for.
@@ -40,28 +40,30 @@ fn refusal_in(
     }
 }
 
-/// The refused build of a script, whose commands stand at these places, in a format.
+/// The refused build of a script, which is told by this text, in a format: by the lines of the file that has the
+/// source.
 pub(crate) fn explain_unbuilt(
     alloc: Global,
     format: Format,
     name: &[u8],
     commands: &[Command],
-    places: &[CommandPlace],
+    told: &PlacedScript<'_>,
     unbuilt: Unbuilt,
 ) -> Result<String, AllocError> {
-    let name = String::from_utf8_lossy(alloc, name)?;
+    let file = told.file(unbuilt.ticket).unwrap_or(name);
+    let file = String::from_utf8_lossy(alloc, file)?;
     let source = match commands.get(unbuilt.ticket) {
         Some(Command::Program { source, .. }) => source.as_slice(),
         _ => &[],
     };
-    let first = match places.get(unbuilt.ticket) {
+    let first = match told.places.get(unbuilt.ticket) {
         Some(place) => place.source_line,
         None => 1,
     };
     refusal_in(
         alloc,
         format,
-        name.as_str(),
+        file.as_str(),
         source,
         first,
         refused_of(unbuilt.fault),

@@ -4,8 +4,8 @@
 ghost use Rattle.std.specs.Prelude.{IfOk, IfErr, string_bytes};
 ghost use Rattle.device.specs.Machine.{machine_of};
 ghost use Rattle.host_commands.specs.declared.command.Reply.TheVariants as reply;
+ghost use Rattle.placed_scripts.specs.Placed.{HasPlaces};
 ghost use Rattle.simfile.specs.Faults.{NoScript};
-ghost use Rattle.simfile.specs.Places.{AreAt};
 ghost use Rattle.explaining.specs.Leading.{RepliesAt, StandsBehind};
 ghost use Rattle.explaining.specs.Whole.{TellsEnd, TellsFaulted};
 
@@ -25,9 +25,9 @@ fn fault_text(
     performed: &PerformedScript<'_>,
     case: Case,
 ) -> Result<String, RunFault>
-    requires placed { AreAt performed.now.given.script.now performed.now.commands.now performed.now.places.now }
+    requires placed { HasPlaces performed.now.told performed.now.commands.now }
     requires replied { RepliesAt performed.now.commands.now (machine_of device.now) case.ticket (reply.Fault case.fault case.schedule) }
-    ensures tells { IfOk result (λ text. TellsFaulted performed.now.options performed.now.given.name.now performed.now.given.script.now performed.now.commands.now performed.now.done.now (machine_of device.now) case.ticket case.fault case.schedule (string_bytes text)) }
+    ensures tells { IfOk result (λ text. TellsFaulted performed.now.options performed.now.given.name.now performed.now.told performed.now.commands.now performed.now.done.now (machine_of device.now) case.ticket case.fault case.schedule (string_bytes text)) }
     ensures failed { IfErr result (NoScript performed.now.given.script.now) }
 {
     let (ticket, fault) = (case.ticket, case.fault);
@@ -55,7 +55,7 @@ fn unbuilt_text(
         performed.options.format,
         performed.given.name,
         performed.commands,
-        performed.places,
+        &performed.told,
         unbuilt,
     )
 }
@@ -68,9 +68,9 @@ pub(crate) fn end_text(
     performed: &PerformedScript<'_>,
     end: Walked,
 ) -> Result<String, RunFault>
-    requires placed { AreAt performed.now.given.script.now performed.now.commands.now performed.now.places.now }
+    requires placed { HasPlaces performed.now.told performed.now.commands.now }
     requires ended { StandsBehind performed.now.commands.now (machine_of device.now) end }
-    ensures tells { IfOk result (λ text. TellsEnd performed.now.options performed.now.given.name.now performed.now.given.script.now performed.now.commands.now performed.now.done.now (machine_of device.now) end (string_bytes text)) }
+    ensures tells { IfOk result (λ text. TellsEnd performed.now.options performed.now.given.name.now performed.now.told performed.now.commands.now performed.now.done.now (machine_of device.now) end (string_bytes text)) }
     ensures failed { IfErr result (NoScript performed.now.given.script.now) }
 {
     match end {

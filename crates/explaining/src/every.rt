@@ -3,8 +3,8 @@
 
 ghost use Rattle.std.specs.Prelude.{◌≡◌, ◌+◌, ◌<◌, [], ◌++◌, Bool, List, Some, true, false, codes, decimal, length, IfOk, IfErr, OnOk, slice_get, string_bytes};
 ghost use Rattle.device.specs.Machine.{machine_of};
+ghost use Rattle.placed_scripts.specs.Placed.{HasPlaces, IsTold};
 ghost use Rattle.simfile.specs.Faults.{NoScript};
-ghost use Rattle.simfile.specs.Places.{AreAt};
 ghost use Rattle.simfile.specs.Script.{IsScript};
 ghost use Rattle.explaining.specs.Every.{IsEndAdded, TellsCommand};
 ghost use Rattle.explaining.specs.Explaining.{Found};
@@ -17,20 +17,19 @@ use crate::ends::end_text;
 use crate::facts::{ExplainOptions, Format, Given};
 use crate::walks::{Walked, end_of, ordered_by, perform};
 use device::{Command, Device};
+use placed_scripts::PlacedScript;
 use simfile::copies::copies_of;
 use simfile::faults::RunFault;
-use simfile::script::CommandPlace;
 use std::alloc::{AllocError, Global};
 use std::fmt::Write;
-use telling::place_of;
 
-/// A script that was read: what is given of it, how it is told, and its commands with their places.
+/// A script that was read: what is given of it, how and by which text it is told, and its commands.
 #[derive(Clone, Copy)]
 pub(crate) struct ReadScript<'a> {
     pub given: Given<'a>,
     pub options: ExplainOptions,
     pub commands: &'a [Command],
-    pub places: &'a [CommandPlace],
+    pub told: PlacedScript<'a>,
 }
 
 /// Adds a line with the number of a command and its line in the script.
@@ -83,14 +82,14 @@ fn push_end(
     end: Walked,
     out: &mut String,
 ) -> Result<(), RunFault>
-    requires placed { AreAt performed.now.given.script.now performed.now.commands.now performed.now.places.now }
+    requires placed { HasPlaces performed.now.told performed.now.commands.now }
     requires within { ticket < length performed.now.commands.now }
     requires ended { StandsBehind performed.now.commands.now (machine_of device.now) end }
-    ensures told { OnOk result (IsEndAdded performed.now.options performed.now.given.name.now performed.now.given.script.now performed.now.commands.now performed.now.done.now (machine_of device.now) ticket end (string_bytes out.old) (string_bytes out.new)) }
+    ensures told { OnOk result (IsEndAdded performed.now.options performed.now.given.name.now performed.now.told performed.now.commands.now performed.now.done.now (machine_of device.now) ticket end (string_bytes out.old) (string_bytes out.new)) }
     ensures failed { IfErr result (NoScript performed.now.given.script.now) }
 {
     let text = end_text(alloc, device, performed, end)?;
-    let place = place_of(performed.places, ticket);
+    let place = performed.told.place(ticket);
     push_headed(
         performed.options.format,
         ticket,
@@ -121,9 +120,9 @@ fn tell_command(
     done: &mut Vec<bool>,
     out: &mut String,
 ) -> Result<Met, RunFault>
-    requires placed { AreAt script.now.given.script.now script.now.commands.now script.now.places.now }
+    requires placed { HasPlaces script.now.told script.now.commands.now }
     requires next { slice_get script.now.commands.now (length done.old.items) ≡ Some command }
-    ensures told { IfOk result (TellsCommand script.now.options script.now.given.name.now script.now.given.script.now script.now.commands.now done.old.items (machine_of device.old) command (machine_of device.new)
+    ensures told { IfOk result (TellsCommand script.now.options script.now.given.name.now script.now.told script.now.commands.now done.old.items (machine_of device.old) command (machine_of device.new)
         done.new.items (string_bytes out.old) (string_bytes out.new) met) }
     ensures counted { OnOk result (length done.new.items ≡ length done.old.items + 1) }
     ensures failed { IfErr result (NoScript script.now.given.script.now) }
@@ -141,7 +140,7 @@ fn tell_command(
         given: script.given,
         options: script.options,
         commands: script.commands,
-        places: script.places,
+        told: script.told,
         done: done.as_slice(),
     };
     push_end(alloc, device, &performed, ticket, end, out)?;
@@ -162,9 +161,9 @@ fn tell_commands(
     script: &ReadScript<'_>,
     same: Vec<Command>,
 ) -> Result<AllTold, RunFault>
-    requires placed { AreAt script.now.given.script.now script.now.commands.now script.now.places.now }
+    requires placed { HasPlaces script.now.told script.now.commands.now }
     requires same { same.items ≡ script.now.commands.now }
-    ensures each { IfOk result (λ told. (done : List Bool) × TellsEach script.now.options script.now.given.name.now script.now.given.script.now script.now.commands.now [] (machine_of device.old) same.items (machine_of device.new) done (string_bytes told.text)) }
+    ensures each { IfOk result (λ told. (done : List Bool) × TellsEach script.now.options script.now.given.name.now script.now.told script.now.commands.now [] (machine_of device.old) same.items (machine_of device.new) done (string_bytes told.text)) }
     ensures met { IfOk result (λ told. IsMet (machine_of device.old) same.items same.items (machine_of device.new) told.met.end told.met.ordered) }
     ensures failed { IfErr result (NoScript script.now.given.script.now) }
 {
@@ -200,9 +199,9 @@ fn or_word(alloc: Global, told: AllTold) -> Result<Answer, AllocError>
 /// the buffers that it had. An error is out of memory.
 pub(crate) fn explain_all(alloc: Global, script: &ReadScript<'_>) -> Result<Answer, RunFault>
     requires script { IsScript script.now.given.script.now script.now.commands.now }
-    requires placed { AreAt script.now.given.script.now script.now.commands.now script.now.places.now }
+    requires placed { IsTold script.now.given.script.now script.now.commands.now script.now.given.written script.now.told }
     ensures found { IfOk result (λ answer. Found script.now.options.configuration script.now.given.script.now answer.yes) }
-    ensures says { IfOk result (λ answer. SaysAll script.now.options script.now.given.name.now script.now.given.script.now answer.yes (string_bytes answer.text)) }
+    ensures says { IfOk result (λ answer. SaysAll script.now.options script.now.given.name.now script.now.given.script.now script.now.given.written answer.yes (string_bytes answer.text)) }
     ensures failed { IfErr result (NoScript script.now.given.script.now) }
 {
     let same = copies_of(alloc, script.commands)?;

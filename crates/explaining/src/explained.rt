@@ -4,8 +4,8 @@
 ghost use Rattle.std.specs.Prelude.{◌≡◌, ◌≤◌, [], IfOk, IfErr, IfSome, OnOk, List, ℕ, length, is_some, string_bytes};
 ghost use Rattle.byte_io.specs.Sink.{Wrote};
 ghost use Rattle.device.specs.Machine.{machine_of, opening};
+ghost use Rattle.placed_scripts.specs.Placed.{HasPlaces, IsTold as IsToldIn};
 ghost use Rattle.simfile.specs.Faults.{NoScript};
-ghost use Rattle.simfile.specs.Places.{AreAt};
 ghost use Rattle.simfile.specs.Script.{IsScript};
 ghost use Rattle.explaining.specs.Explaining.{Explained, Explains, Found, IsTold, Unanswered, Unexplained, Unled, Unwritten};
 ghost use Rattle.explaining.specs.Leading.{IsNoted, WalkedTo};
@@ -23,9 +23,10 @@ use clmodel::fault::Fault;
 use clmodel::schedule::Schedule;
 use device::{Command, Device};
 use fault_lines::read;
+use placed_scripts::{PlacedScript, told_script};
 use simfile::copies::copies_of;
 use simfile::faults::RunFault;
-use simfile::script::{CommandPlace, Script, read_script};
+use simfile::script::{Script, read_script};
 use std::alloc::{AllocError, Global};
 use telling::ExplainedCase;
 
@@ -35,15 +36,15 @@ fn told_at(
     given: Given<'_>,
     options: ExplainOptions,
     commands: &[Command],
-    places: &[CommandPlace],
+    told: PlacedScript<'_>,
     ticket: usize,
     fault: &Fault,
     schedule: Schedule,
 ) -> Result<Option<ExplainedCase>, RunFault>
-    requires placed { AreAt given.script.now commands.now places.now }
+    requires placed { HasPlaces told commands.now }
     requires within { ticket ≤ length commands.now }
     ensures told { IfOk result (λ found. IsTold options.configuration commands.now ticket fault.now schedule (is_some found)) }
-    ensures whole { IfOk result (λ found. IfSome found (IsToldThere options given.entry.name.now given.entry.script.now commands.now ticket fault.now schedule)) }
+    ensures whole { IfOk result (λ found. IfSome found (IsToldThere options given.entry.name.now told.entry commands.now ticket fault.now schedule)) }
     ensures failed { IfErr result (Unled options.configuration commands.now ticket) }
 {
     let (first, _) = commands.split_at(ticket);
@@ -54,7 +55,7 @@ fn told_at(
         given,
         options,
         commands,
-        places,
+        told,
         done: done.as_slice(),
     };
     explain_case(alloc, &device, &performed, ticket, fault, schedule, false)
@@ -66,13 +67,13 @@ fn told_in(
     given: Given<'_>,
     options: ExplainOptions,
     commands: &[Command],
-    places: &[CommandPlace],
+    told: PlacedScript<'_>,
     schedule: &[u8],
 ) -> Result<Option<ExplainedCase>, RunFault>
     requires script { IsScript given.script.now commands.now }
-    requires placed { AreAt given.script.now commands.now places.now }
+    requires placed { IsToldIn given.script.now commands.now given.written told }
     ensures explained { IfOk result (λ found. Explained options.configuration given.entry.script.now schedule.now (is_some found)) }
-    ensures whole { IfOk result (λ found. IfSome found (IsToldOf options given.entry.name.now given.entry.script.now schedule.now)) }
+    ensures whole { IfOk result (λ found. IfSome found (IsToldOf options given.entry.name.now given.entry.script.now given.entry.written schedule.now)) }
     ensures failed { IfErr result (Unexplained options.configuration given.entry.script.now schedule.now) }
 {
     let (number, fault, runs) = read(alloc, schedule)?;
@@ -84,7 +85,7 @@ fn told_in(
         given,
         options,
         commands,
-        places,
+        told,
         number as usize,
         &fault,
         runs,
@@ -99,18 +100,12 @@ fn explain_schedule(
     options: ExplainOptions,
 ) -> Result<Answer, RunFault>
     ensures explained { IfOk result (λ answer. Explained options.configuration given.entry.script.now schedule.now answer.yes) }
-    ensures says { IfOk result (λ answer. SaysOf options given.entry.name.now given.entry.script.now schedule.now answer.yes (string_bytes answer.text)) }
+    ensures says { IfOk result (λ answer. SaysOf options given.entry.name.now given.entry.script.now given.entry.written schedule.now answer.yes (string_bytes answer.text)) }
     ensures failed { IfErr result (Unexplained options.configuration given.entry.script.now schedule.now) }
 {
     let Script { commands, places } = read_script(alloc, given.script)?;
-    let told = told_in(
-        alloc,
-        given,
-        options,
-        commands.as_slice(),
-        places.as_slice(),
-        schedule,
-    )?;
+    let by = told_script(given.script, places.as_slice(), given.written);
+    let told = told_in(alloc, given, options, commands.as_slice(), by, schedule)?;
     Ok(answer_of(alloc, told, options.format, "no\n")?)
 }
 
@@ -122,11 +117,11 @@ fn answer_at(
     end: Walked,
 ) -> Result<Answer, RunFault>
     requires script { IsScript performed.now.given.script.now performed.now.commands.now }
-    requires placed { AreAt performed.now.given.script.now performed.now.commands.now performed.now.places.now }
+    requires placed { IsToldIn performed.now.given.script.now performed.now.commands.now performed.now.given.written performed.now.told }
     requires walked { WalkedTo (opening performed.now.options.configuration) performed.now.commands.now (machine_of device.now) end }
     requires noted { IsNoted end performed.now.done.now }
     ensures found { IfOk result (λ answer. Found performed.now.options.configuration performed.now.given.script.now answer.yes) }
-    ensures says { IfOk result (λ answer. SaysOne performed.now.options performed.now.given.name.now performed.now.given.script.now answer.yes (string_bytes answer.text)) }
+    ensures says { IfOk result (λ answer. SaysOne performed.now.options performed.now.given.name.now performed.now.given.script.now performed.now.given.written answer.yes (string_bytes answer.text)) }
     ensures failed { IfErr result (NoScript performed.now.given.script.now) }
 {
     let yes = end.is_end();
@@ -140,12 +135,12 @@ fn explain_commands(
     given: Given<'_>,
     options: ExplainOptions,
     commands: &[Command],
-    places: &[CommandPlace],
+    told: PlacedScript<'_>,
 ) -> Result<Answer, RunFault>
     requires script { IsScript given.script.now commands.now }
-    requires placed { AreAt given.script.now commands.now places.now }
+    requires placed { IsToldIn given.script.now commands.now given.written told }
     ensures found { IfOk result (λ answer. Found options.configuration given.entry.script.now answer.yes) }
-    ensures says { IfOk result (λ answer. SaysOne options given.entry.name.now given.entry.script.now answer.yes (string_bytes answer.text)) }
+    ensures says { IfOk result (λ answer. SaysOne options given.entry.name.now given.entry.script.now given.entry.written answer.yes (string_bytes answer.text)) }
     ensures failed { IfErr result (NoScript given.entry.script.now) }
 {
     let same = copies_of(alloc, commands)?;
@@ -154,7 +149,7 @@ fn explain_commands(
         given,
         options,
         commands,
-        places,
+        told,
         done: done.as_slice(),
     };
     answer_at(alloc, &device, &performed, end)
@@ -167,26 +162,21 @@ fn explain_script(
     options: ExplainOptions,
 ) -> Result<Answer, RunFault>
     ensures found { IfOk result (λ answer. Found options.configuration given.entry.script.now answer.yes) }
-    ensures says { IfOk result (λ answer. SaysScript options given.entry.name.now given.entry.script.now answer.yes (string_bytes answer.text)) }
+    ensures says { IfOk result (λ answer. SaysScript options given.entry.name.now given.entry.script.now given.entry.written answer.yes (string_bytes answer.text)) }
     ensures failed { IfErr result (NoScript given.entry.script.now) }
 {
     let Script { commands, places } = read_script(alloc, given.script)?;
+    let told = told_script(given.script, places.as_slice(), given.written);
     if options.all {
         let script = ReadScript {
             given,
             options,
             commands: commands.as_slice(),
-            places: places.as_slice(),
+            told,
         };
         return explain_all(alloc, &script);
     }
-    explain_commands(
-        alloc,
-        given,
-        options,
-        commands.as_slice(),
-        places.as_slice(),
-    )
+    explain_commands(alloc, given, options, commands.as_slice(), told)
 }
 
 /// What is explained of what is given.
@@ -210,7 +200,8 @@ fn answer_to(alloc: Global, given: Given<'_>, options: ExplainOptions) -> Result
 /// command, one behind another. A source, which is a file whose name ends in `.cl`, is built alone. Writes what it
 /// explains and answers true; or writes `no` where the schedule doesn't lead to the fault, `clean` or
 /// `ordered` where no launch has a fault and no command is refused, and `ok` where a source builds, and answers false.
-/// It is `ordered` where one launch is answered so.
+/// It is `ordered` where one launch is answered so. The lines that are told are those of the text that a user wrote,
+/// where one is given with a place for each command, and else those of the script.
 ///
 /// After `Write` a beginning of the text was written, after every other error nothing. No memory may be left at any
 /// step.

@@ -2,6 +2,7 @@
 #![tactic(auto)]
 
 use limits::Configuration;
+use placed_scripts::PlacedScript;
 
 /// How an explanation is written.
 #[derive(Clone, Copy, Debug, PartialEq, Eq)]
@@ -25,10 +26,12 @@ pub struct ExplainOptions {
 }
 
 /// The texts that are given: the name of the script as on the command line and its bytes, and those of a schedule file,
-/// if one is named. A name that ends in `.cl` is that of a source.
+/// if one is named. A name that ends in `.cl` is that of a source. Where a user wrote the script as another text, of
+/// which it was made, that one is given with it: what is told are its lines.
 #[derive(Clone, Copy)]
 pub struct Given<'a> {
     pub name: &'a [u8],
     pub script: &'a [u8],
     pub schedule: Option<&'a [u8]>,
+    pub written: Option<PlacedScript<'a>>,
 }

@@ -5,7 +5,7 @@ ghost use Rattle.std.specs.Prelude.{◌≡◌, ◌<◌, Some, length, IfOk, IfSo
 ghost use Rattle.device.specs.Machine.{machine_of};
 ghost use Rattle.explain_refusals.specs.Reasons.{Holds};
 ghost use Rattle.host_commands.specs.declared.command.Command.{Command as CommandOf};
-ghost use Rattle.simfile.specs.Places.{AreAt};
+ghost use Rattle.placed_scripts.specs.Placed.{HasPlaces};
 ghost use Rattle.explaining.specs.Refusing.{IsRefusalText, TellsRefusal};
 
 use crate::cases::PerformedScript;
@@ -18,9 +18,8 @@ use refused_commands::{RefusedCommand, refused_text};
 use simfile::copies::copy_of;
 use simfile::script::CommandPlace;
 use std::alloc::{AllocError, Global};
-use telling::place_of;
 
-/// Commands that were done, with their places in the script.
+/// Commands that were done, with their places in the text by which the script is told.
 #[derive(Drop)]
 struct Done {
     commands: Vec<Command>,
@@ -37,7 +36,7 @@ fn done_at<'a>(
         return None;
     }
     let command = performed.commands.get(number)?;
-    let place = performed.places.get(number)?;
+    let place = performed.told.places.get(number)?;
     Some((command, *place))
 }
 
@@ -99,16 +98,16 @@ pub(crate) fn explain_refused(
     performed: &PerformedScript<'_>,
     case: RefusedCase,
 ) -> Result<String, AllocError>
-    requires placed { AreAt performed.now.given.script.now performed.now.commands.now performed.now.places.now }
+    requires placed { HasPlaces performed.now.told performed.now.commands.now }
     requires within { case.ticket < length performed.now.commands.now }
     ensures { IfOk result (λ text. TellsRefusal performed.now.options.configuration.limits (machine_of device.now).buffers performed.now.options.format
-        performed.now.given.name.now performed.now.given.script.now performed.now.commands.now case.ticket case.refusal (string_bytes text)) }
+        performed.now.given.name.now performed.now.told performed.now.commands.now case.ticket case.refusal (string_bytes text)) }
 {
     let found = reason_at(alloc, device, performed, case)?;
-    let place = place_of(performed.places, case.ticket);
+    let place = performed.told.place(case.ticket);
     let at = RefusedAt {
         name: performed.given.name,
-        script: performed.given.script,
+        script: performed.told.text,
         command: case.ticket,
         place,
         refusal: case.refusal,

@@ -23,7 +23,8 @@ use Rattle.fault_play.specs.declared.played.Played.{Played}
 use Rattle.host_commands.specs.declared.command.Command.{Command}
 use Rattle.host_commands.specs.declared.command.Command.TheVariants as command
 use Rattle.item_step.specs.Launches as launches
-use Rattle.simfile.specs.Places.{StandsAt}
+use Rattle.placed_scripts.specs.Placed.{IsPlaced, source_name}
+use Rattle.placed_scripts.specs.declared.placed.PlacedScript.{PlacedScript}
 use Rattle.simfile.specs.declared.script.CommandPlace.{CommandPlace}
 use Rattle.spaces.specs.Buffers.{bytes_in}
 use Rattle.spaces.specs.Tables.{Table}
@@ -60,12 +61,13 @@ explained e options name launch contents context ticket place range orders f run
 
 -- what is told of a prepared launch
 pub whole :
-    (m : Machine) (options : TellOptions) (name script : List ℕ) (commands : List Command) (done : List Bool) (ticket : ℕ) (place : CommandPlace) (kernel : List ℕ) (range : Range) (orders : Bool) (context : Context) (buffers : Table (List ℕ)) (f : Fault) (given runs : List EventRun) (e : Explanation)
-    → slice_get commands ticket ≡ Some (command.Launch kernel range orders) → IsPrepared m kernel range context.launch.now → buffers ≡ m.buffers → IsSourceOf script commands done kernel context.program → StandsAt script commands ticket place
+    (m : Machine) (options : TellOptions) (name : List ℕ) (script : PlacedScript) (commands : List Command) (done : List Bool) (ticket : ℕ) (place : CommandPlace) (kernel : List ℕ) (range : Range) (orders : Bool) (context : Context) (buffers : Table (List ℕ)) (source_file : List ℕ) (file : List ℕ) (f : Fault) (given runs : List EventRun) (e : Explanation)
+    → slice_get commands ticket ≡ Some (command.Launch kernel range orders) → IsPrepared m kernel range context.launch.now → buffers ≡ m.buffers → IsSourceOf script commands done kernel context.program → IsPlaced script ticket place
     → IsShort (launch_of (launches.setup_of context.launch.now) (bytes_in buffers)) f given runs → IsAsWanted options.as_given given runs → string_bytes e.schedule.given ≡ schedule_words given
+    → source_file ≡ source_name script name context.program.program_command → file ≡ utf8_lossy source_file
     → IsExplained options name (launch_of (launches.setup_of context.launch.now) (bytes_in buffers)) (bytes_in buffers) context ticket place range orders f runs e → context.kernel.now ≡ kernel
-    → HasWhole m options name script commands done ticket f given runs e
-whole m options name script commands done ticket place kernel range orders context buffers f given runs e at p same source stands short wanted words explained named = record {
+    → HasWhole m options name script commands done ticket f given runs file e
+whole m options name script commands done ticket place kernel range orders context buffers source_file file f given runs e at p same source stands short wanted words of_file told_file explained named = record {
   kernel = kernel;
   range = range;
   orders = orders;
@@ -82,6 +84,7 @@ whole m options name script commands done ticket place kernel range orders conte
   source = source;
   place = place;
   stands = stands;
+  named = told_file ∙ ap utf8_lossy of_file;
   explained =
       subst (λ (b : Table (List ℕ)). IsExplained options name (launch_of (setup_of m (kernel_of m kernel) range) (bytes_in b)) (bytes_in b) context ticket place range orders f runs e) same
       (subst (λ (s : Setup). IsExplained options name (launch_of s (bytes_in buffers)) (bytes_in buffers) context ticket place range orders f runs e) p.setup explained);
@@ -92,8 +95,8 @@ whole m options name script commands done ticket place kernel range orders conte
 pub if_some : {A : Type 0} (P : A → Type 0) (o : Option A) (x : A) → o ≡ Some x → IfSome o P → P x
 if_some P o x e h = subst (λ p. IfSome p P) e h
 
--- four facts of what was found
+-- five facts of what was found
 pub some_all :
-    {A : Type 0} (o : Option A) (P Q R S T : A → Type 0) → IfSome o P → IfSome o Q → IfSome o R → IfSome o S → ((x : A) → P x → Q x → R x → S x → T x) → IfSome o T
-some_all (Some x) P Q R S T p q r s h = h x p q r s
-some_all None P Q R S T p q r s h = tt
+    {A : Type 0} (o : Option A) (P Q R S U T : A → Type 0) → IfSome o P → IfSome o Q → IfSome o R → IfSome o S → IfSome o U → ((x : A) → P x → Q x → R x → S x → U x → T x) → IfSome o T
+some_all (Some x) P Q R S U T p q r s u h = h x p q r s u
+some_all None P Q R S U T p q r s u h = tt

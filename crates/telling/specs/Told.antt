@@ -31,8 +31,9 @@ use Rattle.host_commands.specs.declared.command.Command.TheVariants as command
 use Rattle.item_step.specs.Launches as launches
 use Rattle.launch_facts.specs.Commands.{HasNoSource, IsSource}
 use Rattle.launch_facts.specs.Facts.{TellsMemory, fault_number, named_items, number_name}
+use Rattle.placed_scripts.specs.Placed.{IsPlaced, source_name}
 use Rattle.launch_facts.specs.declared.commands.ProgramSource.{ProgramSource}
-use Rattle.simfile.specs.Places.{StandsAt}
+use Rattle.placed_scripts.specs.declared.placed.PlacedScript.{PlacedScript}
 use Rattle.simfile.specs.declared.script.CommandPlace.{CommandPlace}
 use Rattle.telling.specs.Judged.{IsShort}
 use Rattle.telling.specs.declared.facts.TellOptions.{TellOptions}
@@ -128,16 +129,16 @@ pub record IsExplained (options : TellOptions) (name : List ℕ) (launch : Launc
   pub schedule : string_bytes e.schedule.short ≡ schedule_words runs
   pub items : TellsItems options launch context f runs e
 
--- the source of a program begins in the line of the script behind that of its command
-abbrev pub BeginsBehind : List ℕ → List Command → ProgramSource → Type 0
-BeginsBehind script commands source = (place : CommandPlace) × StandsAt script commands source.program_command place × (source.first_line ≡ place.source_line)
+-- the source of a program begins in the line that the place of its command tells
+abbrev pub BeginsThere : PlacedScript → ProgramSource → Type 0
+BeginsThere script source = (place : CommandPlace) × (slice_get script.places.now source.program_command ≡ Some place) × (source.first_line ≡ place.source_line)
 
 -- the source of a kernel's program, where these commands of a script were done: that of one of them, by the line in
 -- which it begins; an empty one, where none of them made the kernel, or before it its program
-abbrev pub IsSourceOf : List ℕ → List Command → List Bool → List ℕ → ProgramSource → Type 0
+abbrev pub IsSourceOf : PlacedScript → List Command → List Bool → List ℕ → ProgramSource → Type 0
 IsSourceOf script commands done kernel source =
     ((source.text.now ≡ []) × HasNoSource commands done kernel)
-    ⊎ (IsSource commands done kernel source.kernel_command source.program.now source.function.now source.text.now source.program_command × BeginsBehind script commands source)
+    ⊎ (IsSource commands done kernel source.kernel_command source.program.now source.function.now source.text.now source.program_command × BeginsThere script source)
 
 -- the schedule that is told: where it is wanted as it is given, the given one
 abbrev pub IsAsWanted : Bool → List EventRun → List EventRun → Type 0
@@ -145,8 +146,9 @@ IsAsWanted as_given given runs = MatchBool as_given (runs ≡ given) ⊤
 
 -- An explanation of the launch of a ticket of the script of this name, where these commands were done. Its schedule
 -- leads the launch to the fault and isn't longer than the given one, or is that very one; its places are those in the
--- source of the kernel's program, and its line that of the launch's command. The launch runs this kernel's code.
-pub record HasWhole (m : Machine) (options : TellOptions) (name script : List ℕ) (commands : List Command) (done : List Bool) (ticket : ℕ) (f : Fault) (given runs : List EventRun) (e : Explanation) : Type 0 where
+-- source of the kernel's program, with the name of the file in which that stands, and its line is that of the launch's
+-- command in the text by which the script is told. The launch runs this kernel's code.
+pub record HasWhole (m : Machine) (options : TellOptions) (name : List ℕ) (script : PlacedScript) (commands : List Command) (done : List Bool) (ticket : ℕ) (f : Fault) (given runs : List EventRun) (file : List ℕ) (e : Explanation) : Type 0 where
   pub kernel : List ℕ
   pub range : Range
   pub orders : Bool
@@ -159,6 +161,7 @@ pub record HasWhole (m : Machine) (options : TellOptions) (name script : List �
   pub kernel_named : context.kernel.now ≡ kernel
   pub source : IsSourceOf script commands done kernel context.program
   pub place : CommandPlace
-  pub stands : StandsAt script commands ticket place
+  pub stands : IsPlaced script ticket place
+  pub named : file ≡ utf8_lossy (source_name script name context.program.program_command)
   pub explained : IsExplained options name (launch_of (setup_of m (kernel_of m kernel) range) (bytes_of m)) (bytes_of m) context ticket place range orders f runs e
   pub schedule : string_bytes e.schedule.given ≡ schedule_words given

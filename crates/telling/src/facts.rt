@@ -241,6 +241,8 @@ fn text(alloc: Global, bytes: &[u8]) -> Result<String, AllocError>
 pub(crate) struct LaunchTexts<'a> {
     /// The script's name, as on the command line
     pub name: &'a [u8],
+    /// The name of the file in which the source of its program stands
+    pub source: &'a [u8],
     pub options: TellOptions,
     pub ticket: usize,
     /// Where its command stands in the script

@@ -1,7 +1,8 @@
 //! A fault of a launch explained, where a schedule leads to it.
 #![tactic(auto)]
 
-ghost use Rattle.std.specs.Prelude.{◌≡◌, ◌<◌, ◌≤◌, true, Decides, Some, length, IfOk, IfErr, IfSome, IfNone, IsTrue, is_some, slice_get, string_bytes};
+ghost use Rattle.std.specs.Prelude.{◌≡◌, ◌≤◌, true, Decides, Some, length, IfOk, IfErr, IfSome, IfNone, IsTrue, is_some, slice_get, string_bytes};
+ghost use Rattle.std.specs.Str.Lossy.{utf8_lossy};
 ghost use Rattle.clmodel.specs.Law.{Reaches};
 ghost use Rattle.clmodel.specs.Next.{launch_of};
 ghost use Rattle.clmodel.specs.Outcome.{events_of};
@@ -9,8 +10,8 @@ ghost use Rattle.device.specs.Kept.{IsCodeOf};
 ghost use Rattle.device.specs.Machine.{machine_of};
 ghost use Rattle.explain_items.specs.Marked.{CodeIsMarked};
 ghost use Rattle.item_step.specs.Launches.{code_of, setup_of};
+ghost use Rattle.placed_scripts.specs.Placed.{HasPlaces, source_name};
 ghost use Rattle.launches.specs.Groups.{HasGroups};
-ghost use Rattle.simfile.specs.Places.{AreAt};
 ghost use Rattle.spaces.specs.Buffers.{bytes_in};
 ghost use Rattle.telling.specs.Judged.{IsShort, LeadsThere, NoLaunch, Tells, Untold};
 ghost use Rattle.telling.specs.Told.{HasWhole, IsAsWanted, IsExplained, IsSourceOf, schedule_words};
@@ -26,19 +27,21 @@ use explanation::Explanation;
 use fault_play::{play, shorter};
 use launch_facts::{ProgramSource, schedule_words, source_of};
 use origins::code_is_marked;
+use placed_scripts::PlacedScript;
 use replay::replay;
 use shortening::{Named, Shortened, event_count};
 use simfile::faults::RunFault;
-use simfile::script::CommandPlace;
 use spaces::Buffers;
 use std::alloc::{AllocError, Global};
 use text_lines::line_text;
 
-/// A case that is explained: its explanation, and the schedule that it tells.
+/// A case that is explained: its explanation, the schedule that it tells, and the name of the file in which the source
+/// of its program stands, whose lines it tells.
 #[derive(Drop)]
 pub struct ExplainedCase {
     pub whole: Explanation,
     pub schedule: Schedule,
+    pub source: String,
 }
 
 /// Whether a run is of the group of one of two items.
@@ -200,6 +203,7 @@ fn told_of(
     ensures told { IfOk result (λ found. IfSome found (λ told. IsShort (launch_of (setup_of context.now.launch.now) (bytes_in buffers.now)) fault.now schedule told.schedule)) }
     ensures wanted { IfOk result (λ found. IfSome found (λ told. IsAsWanted as_given schedule told.schedule)) }
     ensures given { IfOk result (λ found. IfSome found (λ told. string_bytes told.whole.schedule.given ≡ schedule_words schedule)) }
+    ensures source { IfOk result (λ found. IfSome found (λ told. string_bytes told.source ≡ utf8_lossy place.now.source.now)) }
     ensures whole { IfOk result (λ found. IfSome found (λ told. IsExplained place.now.options place.now.name.now (launch_of (setup_of context.now.launch.now) (bytes_in buffers.now)) (bytes_in buffers.now) context.now
         place.now.ticket place.now.place place.now.range.now place.now.orders fault.now told.schedule told.whole)) }
 {
@@ -211,6 +215,7 @@ fn told_of(
     Ok(Some(ExplainedCase {
         whole,
         schedule: short.schedule,
+        source: String::from_utf8_lossy(context.alloc, place.source)?,
     }))
 }
 
@@ -249,6 +254,7 @@ fn explain_launch(
     ensures told { IfOk result (λ found. IfSome found (λ told. IsShort (launch_of (setup_of context.now.launch.now) (bytes_in buffers.now)) fault.now schedule told.schedule)) }
     ensures wanted { IfOk result (λ found. IfSome found (λ told. IsAsWanted place.now.options.as_given schedule told.schedule)) }
     ensures given { IfOk result (λ found. IfSome found (λ told. string_bytes told.whole.schedule.given ≡ schedule_words schedule)) }
+    ensures source { IfOk result (λ found. IfSome found (λ told. string_bytes told.source ≡ utf8_lossy place.now.source.now)) }
     ensures whole { IfOk result (λ found. IfSome found (λ told. IsExplained place.now.options place.now.name.now (launch_of (setup_of context.now.launch.now) (bytes_in buffers.now)) (bytes_in buffers.now) context.now
         place.now.ticket place.now.place place.now.range.now place.now.orders fault.now told.schedule told.whole)) }
 {
@@ -259,24 +265,28 @@ fn explain_launch(
     told_of(context, buffers, place, fault, schedule, as_given)
 }
 
-/// A script that was performed up to a launch: its name as on the command line, its bytes, how the launch is told, its
-/// commands with their places, and of those before the launch whether they were done.
+/// A script that was performed up to a launch: its name as on the command line, the text by which it is told with the
+/// places of its commands, how the launch is told, its commands, and of those before the launch whether they were done.
 #[derive(Clone, Copy)]
 pub struct LaunchedScript<'a> {
     pub name: &'a [u8],
-    pub script: &'a [u8],
+    pub script: PlacedScript<'a>,
     pub options: TellOptions,
     pub commands: &'a [Command],
-    pub places: &'a [CommandPlace],
     pub done: &'a [bool],
 }
 
 /// The source of a launch's program; an empty one, without a line, where none of the commands made it.
 fn program_of<'a>(launched: &LaunchedScript<'a>, kernel: &'a Name) -> ProgramSource<'a>
-    requires { AreAt launched.now.script.now launched.now.commands.now launched.now.places.now }
-    ensures { IsSourceOf launched.now.script.now launched.now.commands.now launched.now.done.now kernel.entry.now result }
+    requires { HasPlaces launched.now.script launched.now.commands.now }
+    ensures { IsSourceOf launched.now.script launched.now.commands.now launched.now.done.now kernel.entry.now result }
 {
-    match source_of(launched.commands, launched.places, launched.done, kernel) {
+    match source_of(
+        launched.commands,
+        launched.script.places,
+        launched.done,
+        kernel,
+    ) {
         Some(program) => program,
         None => ProgramSource {
             text: &[],
@@ -289,12 +299,14 @@ fn program_of<'a>(launched: &LaunchedScript<'a>, kernel: &'a Name) -> ProgramSou
     }
 }
 
-/// The place of the command of a number.
-pub fn place_of(places: &[CommandPlace], number: usize) -> CommandPlace
-    requires { number < length places.now }
-    ensures { slice_get places.now number ≡ Some result }
+/// The name of the file in which the source of the program stands that the command of a number makes.
+fn file_of<'a>(launched: &LaunchedScript<'a>, number: usize) -> &'a [u8]
+    ensures { result.now ≡ source_name launched.now.script launched.now.name.now number }
 {
-    places[number]
+    match launched.script.file(number) {
+        Some(file) => file,
+        None => launched.name,
+    }
 }
 
 /// What a command of a script launches, if it is a launch: the kernel, the range, and whether it has `orders`.
@@ -335,36 +347,39 @@ pub fn explain_case(
     schedule: Schedule,
     known: bool,
 ) -> Result<Option<ExplainedCase>, RunFault>
-    requires placed { AreAt launched.now.script.now launched.now.commands.now launched.now.places.now }
+    requires placed { HasPlaces launched.now.script launched.now.commands.now }
     requires known { known ≡ true → LeadsThere (machine_of device.now) launched.now.commands.now ticket fault.now schedule }
     ensures told { IfOk result (λ found. Tells (machine_of device.now) launched.now.commands.now ticket fault.now schedule (is_some found)) }
-    ensures whole { IfOk result (λ found. IfSome found (λ told. HasWhole (machine_of device.now) launched.now.options launched.now.name.now launched.now.script.now launched.now.commands.now launched.now.done.now ticket fault.now schedule told.schedule told.whole)) }
+    ensures whole { IfOk result (λ found. IfSome found (λ told. HasWhole (machine_of device.now) launched.now.options launched.now.name.now launched.now.script launched.now.commands.now launched.now.done.now ticket fault.now schedule told.schedule (string_bytes told.source) told.whole)) }
     ensures failed { IfErr result (Untold (machine_of device.now) launched.now.commands.now ticket) }
 {
     let Some((kernel, range, orders)) = launch_in(launched.commands, ticket) else {
         return Err(RunFault::NotALaunch(ticket as u64));
     };
-    let at = place_of(launched.places, ticket);
+    let at = launched.script.place(ticket);
     let launch = match device.prepare(kernel, range) {
         Ok(launch) => launch,
         Err(Refusal::OutOfMemory) => return Err(RunFault::OutOfMemory),
         Err(_) => return Err(RunFault::CommandRefused(ticket as u64)),
     };
     launch_is_marked(&launch);
+    let program = program_of(launched, kernel);
+    let source = file_of(launched, program.program_command);
     let context = Context {
         alloc,
         launch: &launch,
-        program: program_of(launched, kernel),
+        program,
         commands: launched.commands,
         done: launched.done,
         kernel,
     };
     let place = LaunchTexts {
         name: launched.name,
+        source,
         options: launched.options,
         ticket,
         place: at,
-        line: line_text(launched.script, at.at),
+        line: line_text(launched.script.text, at.at),
         range,
         orders,
     };

@@ -12,7 +12,8 @@ use Rattle.host_commands.specs.declared.command.Command.TheVariants as command
 use Rattle.host_commands.specs.declared.command.Reply.{Reply}
 use Rattle.host_commands.specs.declared.command.Reply.TheVariants as reply
 use Rattle.device.specs.Machine.{Machine, Answers, Launches, bytes_of, kernel_of, opening, setup_of}
-use Rattle.simfile.specs.Places.{AreAt}
+use Rattle.placed_scripts.specs.Placed.{IsTold}
+use Rattle.placed_scripts.specs.declared.placed.PlacedScript.{PlacedScript}
 use Rattle.simfile.specs.Script.{IsScript}
 use Rattle.simfile.specs.declared.script.CommandPlace.{CommandPlace}
 use Rattle.widening.specs.Widened.{is_free_at, with_arguments}
@@ -158,10 +159,10 @@ TellsFaults all places number old (c ∷ cs) text =
     (mid : Machine) × (r : Reply) × (line : List ℕ) × (rest : List ℕ) × Answers old c r mid × IsAside (head_of all number places) old c r line × (text ≡ line ++ rest)
     × MatchBool (goes_on all r) (TellsFaults all places (number + 1) mid cs rest) (rest ≡ [])
 
--- the lines of a script that a device of this configuration performs
-pub record IsFaultAsides (configuration : Configuration) (script : List ℕ) (all : Bool) (text : List ℕ) : Type 0 where
+-- the lines of a script that a device of this configuration performs, by the text by which it is told
+pub record IsFaultAsides (configuration : Configuration) (script : List ℕ) (written : Option PlacedScript) (all : Bool) (text : List ℕ) : Type 0 where
   pub commands : List Command
-  pub places : List CommandPlace
+  pub by : PlacedScript
   pub is : IsScript script commands
-  pub placed : AreAt script commands places
-  pub told : TellsFaults all places 0 (opening configuration) commands text
+  pub lines : IsTold script commands written by
+  pub told : TellsFaults all by.places.now 0 (opening configuration) commands text

@@ -18,6 +18,7 @@ use crate::laws::faults_are_in_kernel;
 use clmodel::setup::{Argument, Range};
 use clmodel::text::Name;
 use device::{Command, Configuration, Device, Launch, Refusal, Reply};
+use placed_scripts::{PlacedScript, told_script};
 use simfile::copies::copy_of;
 use simfile::faults::RunFault;
 use simfile::script::{CommandPlace, Script, read_script};
@@ -407,19 +408,19 @@ fn told_faults(
     Ok(out)
 }
 
-/// The same on a new device of this configuration.
+/// The same on a new device of this configuration, by the text by which the script is told.
 fn faults_of(
     alloc: Global,
     configuration: Configuration,
     commands: &[Command],
-    places: &[CommandPlace],
+    told: PlacedScript<'_>,
     all: bool,
 ) -> Result<Vec<u8>, AllocError>
-    ensures { IfOk result (λ text. TellsFaults all places.now 0 (opening configuration) commands.now text.items) }
+    ensures { IfOk result (λ text. TellsFaults all told.entry.places.now 0 (opening configuration) commands.now text.items) }
 {
     let mut device = Device::new(alloc, configuration);
-    let mut sources = Sources::new(alloc, configuration.limits, commands, places);
-    told_faults(alloc, &mut device, &mut sources, commands, places, all)
+    let mut sources = Sources::new(alloc, configuration.limits, commands, told);
+    told_faults(alloc, &mut device, &mut sources, commands, told.places, all)
 }
 
 /// Whether the faults of a script are in their kernels or in their data: a line of each launch that faulted, in their
@@ -427,24 +428,22 @@ fn faults_of(
 /// says that a fault is in the kernel only where the launch has it by the same schedule with whatever bytes in its
 /// buffers and whatever numbers as its arguments (OpenCL 1.2, sections 3.2 and 3.3.1); else it tells where the others
 /// decide, as far as that was found, or that nothing is said of a launch with `orders`. Where each is told, the number
-/// of its command and the line stand in front. The bytes have to be a script. It takes the time of the script's run,
-/// and for each launch without `orders` that faulted that of `widen_launch` and of a build of its program.
+/// of its command and the line stand in front. The lines are those of the text that a user wrote, where one is given
+/// with a place for each command, and else those of the script, which the bytes have to be. It takes the time of the
+/// script's run, and for each launch without `orders` that faulted that of `widen_launch` and of a build of its
+/// program.
 pub fn fault_asides(
     alloc: Global,
     configuration: Configuration,
     script: &[u8],
+    written: Option<PlacedScript<'_>>,
     all: bool,
 ) -> Result<Vec<u8>, RunFault>
-    ensures told { IfOk result (λ text. IsFaultAsides configuration script.now all text.items) }
+    ensures told { IfOk result (λ text. IsFaultAsides configuration script.now written.entry all text.items) }
     ensures failed { IfErr result (NoScript script.now) }
 {
     let Script { commands, places } = read_script(alloc, script)?;
-    let text = faults_of(
-        alloc,
-        configuration,
-        commands.as_slice(),
-        places.as_slice(),
-        all,
-    )?;
+    let by = told_script(script, places.as_slice(), written);
+    let text = faults_of(alloc, configuration, commands.as_slice(), by, all)?;
     Ok(text)
 }

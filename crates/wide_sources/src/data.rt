@@ -22,4 +22,6 @@ pub struct Deciding {
     pub why: Why,
     /// Where it decides, if that is known
     pub code: Option<Code>,
+    /// The name of the file in which that is, where it is another one than the script's
+    pub file: Option<String>,
 }

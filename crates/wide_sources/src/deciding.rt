@@ -66,15 +66,19 @@ fn deciding_of(
     decision: &Decision,
 ) -> Result<Deciding, AllocError> {
     let (name, index) = named(alloc, source, buffers, decision.source)?;
-    let code = match source {
-        Some(source) => source.code(alloc, decision.place, decision.why)?,
-        None => None,
+    let (code, file) = match source {
+        Some(source) => (
+            source.code(alloc, decision.place, decision.why)?,
+            source.file(alloc)?,
+        ),
+        None => (None, None),
     };
     Ok(Deciding {
         name,
         index,
         why: decision.why,
         code,
+        file,
     })
 }
 

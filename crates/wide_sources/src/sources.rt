@@ -12,7 +12,7 @@ use host_commands::command::{Command, Reply};
 use host_commands::kernel::parameters_of;
 use limits::Limits;
 use origins::{Node, origin_of};
-use simfile::script::CommandPlace;
+use placed_scripts::PlacedScript;
 use source_spots::{Source, code_of, expression_kind, statement_kind, target_kind};
 use spaces::Table;
 use std::alloc::{AllocError, Global};
@@ -31,7 +31,8 @@ pub struct Sources<'a> {
     alloc: Global,
     limits: Limits,
     commands: &'a [Command],
-    places: &'a [CommandPlace],
+    /// The text by which it is told
+    told: PlacedScript<'a>,
     /// The number of the command that made each program
     programs: Table<usize>,
     kernels: Table<Function>,
@@ -47,6 +48,8 @@ pub struct LaunchSource<'a> {
     kernel: u32,
     text: &'a [u8],
     first_line: usize,
+    /// The name of the file in which it stands, where that is another one than the script's
+    file: Option<&'a [u8]>,
 }
 
 /// Puts a value at a name, over an earlier one. An error is out of memory.
@@ -113,18 +116,18 @@ fn told_node(node: Node<'_>, why: Why) -> (NodeKind, u32) {
 }
 
 impl<'a> Sources<'a> {
-    /// No command was gone over yet.
+    /// No command was gone over yet of a script that is told by this text.
     pub fn new(
         alloc: Global,
         limits: Limits,
         commands: &'a [Command],
-        places: &'a [CommandPlace],
+        told: PlacedScript<'a>,
     ) -> Self {
         Sources {
             alloc,
             limits,
             commands,
-            places,
+            told,
             programs: Table::new(alloc),
             kernels: Table::new(alloc),
             trees: Vec::new(alloc),
@@ -192,7 +195,7 @@ impl<'a> Sources<'a> {
         let name = function.name.copied(self.alloc)?;
         let (Some(Command::Program { source, .. }), Some(place)) = (
             self.commands.get(program),
-            self.places.get(program),
+            self.told.places.get(program),
         ) else {
             return Ok(None);
         };
@@ -208,6 +211,7 @@ impl<'a> Sources<'a> {
             kernel: found.function.name,
             text: source.as_slice(),
             first_line: place.source_line,
+            file: self.told.file(program),
         }))
     }
 }
@@ -222,6 +226,14 @@ impl LaunchSource<'_> {
         match self.checked.tree.names.get(parameter.name as usize) {
             Some(name) => String::from_utf8_lossy(alloc, name.as_slice()),
             None => Ok(String::new(alloc)),
+        }
+    }
+
+    /// The name of the file in which it stands, where that is another one than the script's. An error is out of memory.
+    pub(crate) fn file(&self, alloc: Global) -> Result<Option<String>, AllocError> {
+        match self.file {
+            Some(name) => Ok(Some(String::from_utf8_lossy(alloc, name)?)),
+            None => Ok(None),
         }
     }
 

@@ -64,6 +64,14 @@ pub fn push_arguments(
     Ok(())
 }
 
+/// The file of this name, or the script.
+fn file_words(file: &Option<String>) -> &str {
+    match file {
+        Some(name) => name.as_str(),
+        None => "the script",
+    }
+}
+
 /// Adds what decides, and where.
 pub fn push_deciding(deciding: &Deciding, out: &mut String) -> Result<(), AllocError> {
     match deciding.index {
@@ -75,9 +83,10 @@ pub fn push_deciding(deciding: &Deciding, out: &mut String) -> Result<(), AllocE
     if let Some(code) = &deciding.code {
         let (line, column, text) = (code.line, code.column, code.text.as_str());
         let script_line = code.script_line;
+        let file = file_words(&deciding.file);
         write!(
             out,
-            " at {line}:{column}, line {script_line} of the script: {text}"
+            " at {line}:{column}, line {script_line} of {file}: {text}"
         )?;
     }
     Ok(())

@@ -4,7 +4,7 @@ use Rattle.serde_json.specs.Data.{Data}
 use Rattle.serde_json.specs.View.{items_of}
 use Rattle.serde_json.specs.Written.{has_float, items_have_float}
 use Rattle.wide_sources.specs.declared.data.Deciding.{Deciding}
-use Rattle.wide_text.specs.Members.{number_data, or_null, code_data, deciding_data, buffer_data, argument_data, holds_data, launch_data, script_data, report_data}
+use Rattle.wide_text.specs.Members.{number_data, text_data, or_null, code_data, deciding_data, buffer_data, argument_data, holds_data, launch_data, script_data, report_data}
 use Rattle.wide_text.specs.declared.data.FreeBuffer.{FreeBuffer}
 use Rattle.wide_text.specs.declared.data.WideLaunch.{WideLaunch}
 use Rattle.wide_text.specs.declared.data.WideReport.{WideReport}
@@ -24,7 +24,7 @@ number_or_null : (o : Option ℕ) → has_float (or_null number_data o) ≡ fals
 number_or_null o = some number_data (λ n. refl) o
 
 deciding_whole : (d : Deciding) → has_float (deciding_data d) ≡ false
-deciding_whole d = rw (number_or_null d.index, some code_data (λ c. refl) d.code)
+deciding_whole d = rw (some text_data (λ s. refl) d.file, number_or_null d.index, some code_data (λ c. refl) d.code)
 
 buffer_whole : (b : FreeBuffer) → has_float (buffer_data b) ≡ false
 buffer_whole b = rw (number_or_null b.from)

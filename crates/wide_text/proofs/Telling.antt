@@ -1,9 +1,12 @@
 -- A script that was read, performed and told is told wide.
-use Rattle.std.proofs.Common.{◌≡◌, ℕ, Bool, List, sym, ap, ◌∙◌, subst}
+use Rattle.std.proofs.Common.{◌≡◌, ℕ, Bool, Option, List, sym, ap, ◌∙◌, subst}
 use Rattle.device.specs.Machine.{Machine, opening}
 use Rattle.host_commands.specs.declared.command.Command.{Command}
 use Rattle.host_commands.specs.declared.command.Reply.{Reply}
 use Rattle.limits.specs.declared.Configuration.{Configuration}
+use Rattle.placed_scripts.proofs.Placing.{is_told}
+use Rattle.placed_scripts.specs.Placed.{IsToldBy}
+use Rattle.placed_scripts.specs.declared.placed.PlacedScript.{PlacedScript}
 use Rattle.simfile.specs.Places.{AreAt}
 use Rattle.simfile.specs.Script.{IsScript}
 use Rattle.simfile.specs.declared.script.CommandPlace.{CommandPlace}
@@ -26,25 +29,24 @@ told_of how rs clean free reads text report is told =
     (subst (λ (l : List ℕ). IsTold how rs report.clean l reads text) is.free (subst (λ (l : List ℕ). IsTold how rs report.clean report.free.items l text) is.reads told))
 
 pub told_wide :
-    (configuration : Configuration) (script : List ℕ) (how : Format) (commands same : List Command) (places given : List CommandPlace) (replies ended told : List Reply) (notes : List Note) (free reads : List Bool) (end : WideEnd) (report : WideReport) (text : List ℕ)
+    (configuration : Configuration) (script : List ℕ) (written : Option PlacedScript) (by : PlacedScript) (how : Format) (commands same : List Command) (places given : List CommandPlace) (replies ended told : List Reply) (notes : List Note) (free reads : List Bool) (end : WideEnd) (report : WideReport) (text : List ℕ)
     → IsScript script commands → AreAt script commands places → same ≡ commands → ((new : Machine) × AreNoted (opening configuration) same replies notes new)
-    → IsWideScript configuration free reads same replies → ended ≡ replies → told ≡ replies → given ≡ places → end ≡ end_of ended
-    → IsReport (is_clean end) (lines_of free given) (lines_of reads given) report → IsTold how told report.clean report.free.items report.reads.items text → IsWidened configuration script how end text
-told_wide configuration script how commands same places given replies ended told notes free reads end report text is placed copied noted wide at_end at_text at_places comes reported written =
-    let lines = told_of how told (is_clean end) (lines_of free given) (lines_of reads given) text report reported written in
+    → IsWideScript configuration free reads same replies → ended ≡ replies → told ≡ replies → given ≡ places → IsToldBy script given written by → end ≡ end_of ended
+    → IsReport (is_clean end) (lines_of free by.places.now) (lines_of reads by.places.now) report → IsTold how told report.clean report.free.items report.reads.items text → IsWidened configuration script written how end text
+told_wide configuration script written by how commands same places given replies ended told notes free reads end report text is placed copied noted wide at_end at_text at_places lent comes reported is_text =
+    let lines = told_of how told (is_clean end) (lines_of free by.places.now) (lines_of reads by.places.now) text report reported is_text in
     record {
       commands = same;
-      places = places;
+      by = by;
       replies = replies;
       new = noted.0;
       free = free;
       reads = reads;
       is = subst (IsScript script) (sym copied) is;
-      placed = subst (λ (cs : List Command). AreAt script cs places) (sym copied) placed;
+      lines = is_told script commands same places given written by placed copied at_places lent;
       ran = run_of (opening configuration) same replies notes noted.0 noted.1;
       wide = wide;
       ended = comes ∙ ap end_of at_end;
       told =
-          subst (λ (ps : List CommandPlace). IsTold how replies (is_clean end) (lines_of free ps) (lines_of reads ps) text) at_places
-          (subst (λ (rs : List Reply). IsTold how rs (is_clean end) (lines_of free given) (lines_of reads given) text) at_text lines);
+          subst (λ (rs : List Reply). IsTold how rs (is_clean end) (lines_of free by.places.now) (lines_of reads by.places.now) text) at_text lines;
     }

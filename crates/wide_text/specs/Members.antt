@@ -38,8 +38,8 @@ code_data c =
 
 abbrev pub deciding_data : Deciding → Data
 deciding_data d =
-    object (member (codes "index") (or_null number_data d.index) (member (codes "name") (text_data d.name) (member (codes "source") (string (source_word d.index))
-    (member (codes "spot") (or_null code_data d.code) (member (codes "why") (string (why_word d.why)) no_members)))))
+    object (member (codes "file") (or_null text_data d.file) (member (codes "index") (or_null number_data d.index) (member (codes "name") (text_data d.name)
+    (member (codes "source") (string (source_word d.index)) (member (codes "spot") (or_null code_data d.code) (member (codes "why") (string (why_word d.why)) no_members))))))
 
 abbrev pub buffer_data : FreeBuffer → Data
 buffer_data b = object (member (codes "from") (or_null number_data b.from) (member (codes "name") (text_data b.name) no_members))

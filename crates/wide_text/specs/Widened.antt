@@ -1,5 +1,5 @@
 -- What is written of a script, and why nothing is (own).
-use Rattle.std.specs.Prelude.{◌≡◌, ℕ, Bool, true, false, not, ◌||◌, Ok, Err, Result, List, [], ◌∷◌, ◌++◌, if◌then◌else◌}
+use Rattle.std.specs.Prelude.{◌≡◌, ℕ, Bool, true, false, not, ◌||◌, Ok, Err, Result, Option, List, [], ◌∷◌, ◌++◌, if◌then◌else◌}
 use Rattle.std.specs.List.{list_any}
 use Rattle.serde_json.specs.Written.{compact_text}
 use Rattle.limits.specs.declared.Configuration.{Configuration}
@@ -7,12 +7,12 @@ use Rattle.host_commands.specs.declared.command.Command.{Command}
 use Rattle.host_commands.specs.declared.command.Reply.{Reply}
 use Rattle.host_commands.specs.declared.command.Reply.TheVariants as reply
 use Rattle.byte_io.specs.Sink.{Sink, Stopped}
+use Rattle.placed_scripts.specs.Placed.{IsTold as IsToldIn}
+use Rattle.placed_scripts.specs.declared.placed.PlacedScript.{PlacedScript}
 use Rattle.device.specs.Machine.{Machine, opening}
-use Rattle.simfile.specs.Places.{AreAt}
 use Rattle.simfile.specs.Script.{IsBadLine, IsScript}
 use Rattle.simfile.specs.declared.faults.RunFault.{RunFault}
 use Rattle.simfile.specs.declared.faults.RunFault.TheVariants as fault
-use Rattle.simfile.specs.declared.script.CommandPlace.{CommandPlace}
 use Rattle.wide_scripts.specs.Scripts.{IsWideScript, Runs}
 use Rattle.wide_sources.specs.Replies.{is_fault, is_refused}
 use Rattle.wide_text.specs.Members.{report_data}
@@ -55,29 +55,30 @@ IsTold format.Text replies clean free reads text = IsText replies clean free rea
 IsTold format.Json replies clean free reads text = (report : WideReport) × IsReport clean free reads report × (text ≡ compact_text (report_data report) ++ 10 ∷ [])
 
 -- A script that was performed on a device of this configuration, with the lines of the writes and fills for all of
--- whose bytes its replies hold, and of the reads that may differ then.
-pub record IsWidened (configuration : Configuration) (script : List ℕ) (how : Format) (end : WideEnd) (text : List ℕ) : Type 0 where
+-- whose bytes its replies hold, and of the reads that may differ then. The lines are those of the text by which the
+-- script is told.
+pub record IsWidened (configuration : Configuration) (script : List ℕ) (written : Option PlacedScript) (how : Format) (end : WideEnd) (text : List ℕ) : Type 0 where
   pub commands : List Command
-  pub places : List CommandPlace
+  pub by : PlacedScript
   pub replies : List Reply
   pub new : Machine
   pub free : List Bool
   pub reads : List Bool
   pub is : IsScript script commands
-  pub placed : AreAt script commands places
+  pub lines : IsToldIn script commands written by
   pub ran : Runs (opening configuration) commands replies new
   pub wide : IsWideScript configuration free reads commands replies
   pub ended : end ≡ end_of replies
-  pub told : IsTold how replies (is_clean end) (lines_of free places) (lines_of reads places) text
+  pub told : IsTold how replies (is_clean end) (lines_of free by.places.now) (lines_of reads by.places.now) text
 
 -- why nothing was told, or only a beginning of it: where the bytes are no script, or memory was refused, nothing was
 -- written; no other fault comes
-abbrev pub Unwidened : Configuration → List ℕ → Format → (old new : Sink) → RunFault → Type 0
-Unwidened configuration script how old new (fault.BadLine n) = IsBadLine script n × (new ≡ old)
-Unwidened configuration script how old new fault.OutOfMemory = new ≡ old
-Unwidened configuration script how old new fault.Write = (end : WideEnd) × (text : List ℕ) × IsWidened configuration script how end text × Stopped old new text
-Unwidened configuration script how old new (fault.Read by) = ⊥
-Unwidened configuration script how old new fault.NoSuchKernel = ⊥
-Unwidened configuration script how old new fault.BadSchedule = ⊥
-Unwidened configuration script how old new (fault.NotALaunch ticket) = ⊥
-Unwidened configuration script how old new (fault.CommandRefused ticket) = ⊥
+abbrev pub Unwidened : Configuration → List ℕ → Option PlacedScript → Format → (old new : Sink) → RunFault → Type 0
+Unwidened configuration script written how old new (fault.BadLine n) = IsBadLine script n × (new ≡ old)
+Unwidened configuration script written how old new fault.OutOfMemory = new ≡ old
+Unwidened configuration script written how old new fault.Write = (end : WideEnd) × (text : List ℕ) × IsWidened configuration script written how end text × Stopped old new text
+Unwidened configuration script written how old new (fault.Read by) = ⊥
+Unwidened configuration script written how old new fault.NoSuchKernel = ⊥
+Unwidened configuration script written how old new fault.BadSchedule = ⊥
+Unwidened configuration script written how old new (fault.NotALaunch ticket) = ⊥
+Unwidened configuration script written how old new (fault.CommandRefused ticket) = ⊥

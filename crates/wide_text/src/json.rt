@@ -5,7 +5,7 @@ ghost use Rattle.std.specs.Prelude.{◌≡◌, ◌++◌, [], ◌∷◌, string_b
 ghost use Rattle.serde_json.specs.Data.{Data};
 ghost use Rattle.serde_json.specs.View.{view};
 ghost use Rattle.serde_json.specs.Written.{compact_text};
-ghost use Rattle.wide_text.specs.Members.{number_data, code_data, deciding_data, buffer_data, argument_data, holds_data, launch_data, script_with, script_data, report_data, list_data, or_null, source_word};
+ghost use Rattle.wide_text.specs.Members.{number_data, text_data, code_data, deciding_data, buffer_data, argument_data, holds_data, launch_data, script_with, script_data, report_data, list_data, or_null, source_word};
 
 use crate::data::{FreeBuffer, WideLaunch, WideReport};
 use crate::text::whole_text;
@@ -32,6 +32,14 @@ impl ToJson for usize {
 
     fn to_json(&self, _alloc: Global) -> Result<Value, AllocError> {
         Ok(Value::from(*self))
+    }
+}
+
+impl ToJson for String {
+    ghost json = { text_data };
+
+    fn to_json(&self, alloc: Global) -> Result<Value, AllocError> {
+        Value::try_from_str(alloc, self.as_str())
     }
 }
 
@@ -88,7 +96,10 @@ impl ToJson for Deciding {
         );
         let index = or_null(alloc, &self.index)?;
         let spot = or_null(alloc, &self.code)?;
-        json!(in alloc; {"why": why, "spot": spot, "source": source, "name": name, "index": index})
+        let file = or_null(alloc, &self.file)?;
+        json!(in alloc; {
+            "why": why, "spot": spot, "source": source, "name": name, "index": index, "file": file
+        })
     }
 }
 

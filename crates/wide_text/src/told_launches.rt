@@ -5,17 +5,17 @@ use crate::data::{FreeBuffer, WideLaunch};
 use crate::gathering::reply_words;
 use clmodel::text::Name;
 use device::{Command, Limits, Reply};
-use simfile::script::CommandPlace;
+use placed_scripts::PlacedScript;
 use spaces::Table;
 use std::alloc::{AllocError, Global};
 use wide_scripts::{Note, Wide, WideScript};
 use wide_sources::{Sources, all_deciding, free_arguments, is_set, text_of};
 
-/// A script that was performed: its commands, their places, their replies and what is noted of them.
+/// A script that was performed: its commands, the text by which it is told, their replies and what is noted of them.
 #[derive(Clone, Copy)]
 pub(crate) struct Performed<'a> {
     pub(crate) commands: &'a [Command],
-    pub(crate) places: &'a [CommandPlace],
+    pub(crate) told: PlacedScript<'a>,
     pub(crate) wide: &'a WideScript,
 }
 
@@ -104,7 +104,7 @@ struct Walk<'a> {
 impl<'a> Walk<'a> {
     /// The line of the command of a number.
     fn line(&self, number: usize) -> usize {
-        match self.performed.places.get(number) {
+        match self.performed.told.places.get(number) {
             Some(place) => place.line,
             None => 0,
         }
@@ -176,7 +176,7 @@ pub(crate) fn launches_of(
     let mut walk = Walk {
         alloc,
         performed,
-        sources: Sources::new(alloc, limits, performed.commands, performed.places),
+        sources: Sources::new(alloc, limits, performed.commands, performed.told),
         writes: Writes::new(alloc),
     };
     let mut launches = Vec::new(alloc);

@@ -18,6 +18,7 @@ use crate::text::text_of;
 use crate::told_launches::{Performed, launches_of};
 use byte_io::{Write, WriteFailed};
 use device::{Configuration, Reply};
+use placed_scripts::{PlacedScript, told_script};
 use simfile::copies::copies_of;
 use simfile::faults::RunFault;
 use simfile::script::{Script, read_script};
@@ -78,11 +79,15 @@ fn report_of(
     performed: Performed<'_>,
     end: WideEnd,
 ) -> Result<WideReport, AllocError>
-    ensures { IfOk result (IsReport (is_clean end) (lines_of performed.entry.wide.now.free.items performed.entry.places.now) (lines_of performed.entry.wide.now.reads.items performed.entry.places.now)) }
+    ensures { IfOk result (IsReport (is_clean end) (lines_of performed.entry.wide.now.free.items performed.entry.told.places.now) (lines_of performed.entry.wide.now.reads.items performed.entry.told.places.now)) }
 {
     let launches = launches_of(alloc, configuration.limits, performed)?;
-    let free = lines_of(alloc, performed.wide.free.as_slice(), performed.places)?;
-    let reads = lines_of(alloc, performed.wide.reads.as_slice(), performed.places)?;
+    let free = lines_of(alloc, performed.wide.free.as_slice(), performed.told.places)?;
+    let reads = lines_of(
+        alloc,
+        performed.wide.reads.as_slice(),
+        performed.told.places,
+    )?;
     Ok(WideReport {
         launches,
         clean: is_clean(end),
@@ -121,23 +126,25 @@ struct Told {
     end: WideEnd,
 }
 
-/// Performs a script, with the text of what is told of it in a format.
+/// Performs a script, with the text of what is told of it in a format, and by the lines of the text that is given.
 fn tell_of(
     alloc: Global,
     configuration: Configuration,
     script: &[u8],
+    own: Option<PlacedScript<'_>>,
     format: Format,
 ) -> Result<Told, RunFault>
-    ensures told { IfOk result (λ told. IsWidened configuration script.now format told.end told.text.items) }
+    ensures told { IfOk result (λ told. IsWidened configuration script.now own.entry format told.end told.text.items) }
     ensures failed { IfErr result (NoScript script.now) }
 {
     let Script { commands, places } = read_script(alloc, script)?;
+    let by = told_script(script, places.as_slice(), own);
     let same = copies_of(alloc, commands.as_slice())?;
     let wide = widen_script(alloc, configuration, same)?;
     let end = end_of(wide.replies.as_slice());
     let performed = Performed {
         commands: commands.as_slice(),
-        places: places.as_slice(),
+        told: by,
         wide: &wide,
     };
     let report = report_of(alloc, configuration, performed, end)?;
@@ -155,20 +162,22 @@ fn tell<W: Write>(text: &[u8], writer: &mut W) -> Result<(), WriteFailed>
 }
 
 /// Performs a script on a device of this configuration, and writes its replies, for which bytes and numbers each
-/// launch's holds, and for all bytes of which writes and fills all of them hold, in a format. Nothing is written where
-/// the bytes are no script, or memory is refused. It takes the time of the script's run and of `widen_script`, and that
-/// of a build for each program that a launch runs.
+/// launch's holds, and for all bytes of which writes and fills all of them hold, in a format. The lines that are told
+/// are those of the text that a user wrote, where one is given with a place for each command, and else those of the
+/// script. Nothing is written where the bytes are no script, or memory is refused. It takes the time of the script's
+/// run and of `widen_script`, and that of a build for each program that a launch runs.
 pub fn widen<W: Write>(
     alloc: Global,
     configuration: Configuration,
     script: &[u8],
+    written: Option<PlacedScript<'_>>,
     format: Format,
     writer: &mut W,
 ) -> Result<WideEnd, RunFault>
-    ensures ok { IfOk result (λ end. (text : List ℕ) × IsWidened configuration script.now format end text × Wrote (W.sink writer.old) (W.sink writer.new) text × ((W.sink writer.new).held ≡ [])) }
-    ensures failed { IfErr result (Unwidened configuration script.now format (W.sink writer.old) (W.sink writer.new)) }
+    ensures ok { IfOk result (λ end. (text : List ℕ) × IsWidened configuration script.now written.entry format end text × Wrote (W.sink writer.old) (W.sink writer.new) text × ((W.sink writer.new).held ≡ [])) }
+    ensures failed { IfErr result (Unwidened configuration script.now written.entry format (W.sink writer.old) (W.sink writer.new)) }
 {
-    let Told { text, end } = tell_of(alloc, configuration, script, format)?;
+    let Told { text, end } = tell_of(alloc, configuration, script, written, format)?;
     tell(text.as_slice(), writer)?;
     Ok(end)
 }

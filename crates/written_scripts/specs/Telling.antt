@@ -55,9 +55,14 @@ abbrev pub kind_of : LineSays → Option IntType
 kind_of (says.ReadNumbers buffer offset kind count) = Some kind
 kind_of _ = None
 
+-- the path of the file that has the source of a line's program, where the line names one
+abbrev pub file_of : LineSays → Option (List ℕ)
+file_of (says.SourceFile name path) = Some path
+file_of _ = None
+
 -- the place of a line that says this
 abbrev pub place_of : ℕ → List ℕ → LineSays → WrittenPlace
-place_of number line said = record { line = number; kind = kind_of said; called = comment_of line }
+place_of number line said = record { line = number; kind = kind_of said; called = comment_of line; file = file_of said }
 
 -- the bytes of numbers that are read are below 2^64
 abbrev pub Fits : LineSays → Type 0

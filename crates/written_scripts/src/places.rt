@@ -13,6 +13,8 @@ pub struct WrittenPlace {
     pub kind: Option<IntType>,
     /// The words of its comment, which are what a launch is called
     pub called: Bytes,
+    /// The path of the file that has its source, where the line names one
+    pub file: Option<Bytes>,
 }
 
 /// The plain text of a script, which is of version 3, and the place of each command.

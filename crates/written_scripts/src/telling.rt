@@ -5,7 +5,7 @@ ghost use Rattle.std.specs.Prelude.{◌≡◌, ◌*◌, ◌+◌, ◌<◌, ◌≤
 ghost use Rattle.script_lines.specs.Numbers.{size_of};
 ghost use Rattle.script_lines.specs.Plain.{plain};
 ghost use Rattle.script_lines.specs.Reading.{says_at};
-ghost use Rattle.written_scripts.specs.Telling.{Fits, of_file, of_lines, of_lines_until, place_of, program_of, told_by, kind_of};
+ghost use Rattle.written_scripts.specs.Telling.{Fits, of_file, of_lines, of_lines_until, place_of, program_of, told_by, file_of, kind_of};
 
 use crate::files::{NamedFile, text_at};
 use crate::lines::{ended, first_end, lines_text};
@@ -145,6 +145,16 @@ fn kind_of(said: &LineSays) -> Option<IntType>
     }
 }
 
+/// The path of the file that has the source of a line's program, where the line names one.
+fn file_of(alloc: Global, said: &LineSays) -> Result<Option<Bytes>, AllocError>
+    ensures { IfOk result (λ file. file ≡ file_of said.now) }
+{
+    match said {
+        LineSays::SourceFile { path, .. } => Ok(Some(Bytes::copy_of(alloc, path.as_slice())?)),
+        _ => Ok(None),
+    }
+}
+
 /// The place of the line of a number that says this.
 pub(crate) fn place_of(
     alloc: Global,
@@ -155,9 +165,11 @@ pub(crate) fn place_of(
     ensures { IfOk result (λ place. place ≡ place_of number line.now said.now) }
 {
     let called = comment_of(alloc, line)?;
+    let file = file_of(alloc, said)?;
     Ok(WrittenPlace {
         line: number,
         kind: kind_of(said),
         called: Bytes::new(called),
+        file,
     })
 }

@@ -9,4 +9,4 @@ pub returns-in-Other-clause-plain : goal.returns-in-Other-clause-plain
 returns-in-Other-clause-plain c =
     let turned = subst (λ (t : Turned). Turns c.args.files.now c.as_slice.result.now t) c.in-Other.is c.in_ok-plain.ensures.turned in
     let other = subst IsOther c.as_slice.ensures.value turned in
-    subst (λ (p : PlainText). IsPlainOf c.args.files.now c.args.script.items p) (sym c.as_it_is.ensures) (other, refl)
+    subst (λ (p : PlainText). IsPlainOf c.args.files.now c.args.script.items p) (sym c.as_it_is.ensures) (other, refl, refl)

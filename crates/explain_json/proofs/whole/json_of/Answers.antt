@@ -12,9 +12,10 @@ pub returns : goal.returns
 returns c =
     let e = c.args.whole.now in
     let is = c.in_ok-value.ensures in
-    let d = explanation_data e is.why in
-    let low : depth d ≤ max_depth = omega (arith, explanation_depth e is.why is.reasons) in
-    let whole : has_float (view c.in_ok-value.value) ≡ false = ap has_float is.is ∙ explanation_whole e is.why is.reasons in
+    let source = c.args.source.now in
+    let d = explanation_data e source is.why in
+    let low : depth d ≤ max_depth = omega (arith, explanation_depth e source is.why is.reasons) in
+    let whole : has_float (view c.in_ok-value.value) ≡ false = ap has_float is.is ∙ explanation_whole e source is.why is.reasons in
     let written : string_bytes c.in_ok-text.text ≡ compact_text d = c.in_ok-text.ensures.text whole ∙ ap compact_text is.is in
     let back = c.in_ok-text.ensures.reads_back (subst (λ (x : Data). depth x ≤ max_depth) (sym is.is) low) in
     let ended : string_bytes c.push.new.self ≡ string_bytes c.in_ok-text.text ++ 10 ∷ [] = search rules in

@@ -19,6 +19,7 @@ returns c =
     c.with-5.ensures _ refl (
     c.with-4.ensures _ refl (
     c.with-3.ensures _ refl (
+    c.with_text.ensures _ refl _ refl (
     c.with-2.ensures _ refl (
     c.with.ensures _ refl (
-    c.with_value.ensures (view c.in_ok-why.why) refl _ tt c.new.ensures))))))))))
+    c.with_value.ensures (view c.in_ok-why.why) refl _ tt c.new.ensures)))))))))))

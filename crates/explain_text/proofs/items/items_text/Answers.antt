@@ -7,7 +7,7 @@ use Rattle.explain_text.proofs.items.items_text.Goals as goal
 
 pub loop-place-preserved : goal.loop-place-preserved
 loop-place-preserved c =
-    let script = string_bytes c.args.whole.now.script in
+    let script = c.args.source.now in
     let xs = c.args.whole.now.items.items in
     let i = c.loop-place.place in
     let r = c.item-item.result in

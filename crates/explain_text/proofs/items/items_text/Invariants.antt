@@ -3,4 +3,4 @@ use Rattle.explain_text.specs.Texts.{AreItems}
 use Rattle.explain_text.proofs.items.items_text.Given as goal
 
 abbrev pub invariant-loop-place : goal.invariant-loop-place
-invariant-loop-place l = AreItems (string_bytes l.whole.script) (take l.place l.whole.items.items) (string_bytes l.out)
+invariant-loop-place l = AreItems l.source (take l.place l.whole.items.items) (string_bytes l.out)

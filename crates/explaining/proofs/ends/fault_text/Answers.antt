@@ -13,7 +13,7 @@ explain_case-requires-clause-known c is =
 
 pub returns-clause-tells : goal.returns-clause-tells
 returns-clause-tells c =
-    tells_faulted c.args.performed.now.options c.args.performed.now.given.name.now c.args.performed.now.given.script.now c.args.performed.now.commands.now c.args.performed.now.done.now (machine_of c.args.device.now) c.args.case.ticket c.args.case.fault c.args.case.schedule
+    tells_faulted c.args.performed.now.options c.args.performed.now.given.name.now c.args.performed.now.told c.args.performed.now.commands.now c.args.performed.now.done.now (machine_of c.args.device.now) c.args.case.ticket c.args.case.fault c.args.case.schedule
     c.in_ok-told.told c.in_ok-answer.answer c.requires.replied c.in_ok-told.ensures.told c.in_ok-told.ensures.whole c.in_ok-answer.ensures.text
 
 pub returns-in_err-told-clause-failed : goal.returns-in_err-told-clause-failed

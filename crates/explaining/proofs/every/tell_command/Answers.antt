@@ -21,17 +21,17 @@ push_end-requires-clause-ended c =
 
 pub returns-in_default-clause-told : goal.returns-in_default-clause-told
 returns-in_default-clause-told c =
-    goes_told c.args.script.now.options c.args.script.now.given.name.now c.args.script.now.given.script.now c.args.script.now.commands.now c.args.done.now.items _ (machine_of c.args.device.now) c.args.command
+    goes_told c.args.script.now.options c.args.script.now.given.name.now c.args.script.now.told c.args.script.now.commands.now c.args.done.now.items _ (machine_of c.args.device.now) c.args.command
     (machine_of c.perform.new.device) c.in_ok-reply.reply (string_bytes c.args.out.now) c.args.met _ c.in_ok-reply.ensures.step c.in_ok-reply.ensures.memory c.in_ok-reply.ensures.noted
     (if_none _ c.in_default.is c.end_of.ensures.goes_on) refl c.ordered_by-ordered.ensures
 
 pub returns-clause-told : goal.returns-clause-told
 returns-clause-told c =
     let at : c.len-ticket.result ≡ length c.args.done.now.items = omega (arith, c.len-ticket.ensures, c.args.done.now.ok.0) in
-    end_told c.args.script.now.options c.args.script.now.given.name.now c.args.script.now.given.script.now c.args.script.now.commands.now c.args.done.now.items c.perform.new.done.items c.len-ticket.result
+    end_told c.args.script.now.options c.args.script.now.given.name.now c.args.script.now.told c.args.script.now.commands.now c.args.done.now.items c.perform.new.done.items c.len-ticket.result
     (machine_of c.args.device.now) c.args.command (machine_of c.perform.new.device) c.in_ok-reply.reply c.in-Some.end (string_bytes c.args.out.now) (string_bytes c.push_end.new.out) c.args.met _
     c.in_ok-reply.ensures.step c.in_ok-reply.ensures.memory c.in_ok-reply.ensures.noted at c.in-Some.ensures.ends
     (subst
     (λ (l : List Bool).
-    IsEndAdded c.args.script.now.options c.args.script.now.given.name.now c.args.script.now.given.script.now c.args.script.now.commands.now l (machine_of c.perform.new.device) c.len-ticket.result c.in-Some.end
+    IsEndAdded c.args.script.now.options c.args.script.now.given.name.now c.args.script.now.told c.args.script.now.commands.now l (machine_of c.perform.new.device) c.len-ticket.result c.in-Some.end
     (string_bytes c.args.out.now) (string_bytes c.push_end.new.out)) c.as_slice.ensures.value c.in_ok-push_end.ensures.told) refl c.ordered_by-ordered.ensures

@@ -24,10 +24,10 @@ loop-command-preserved c =
       split = split ∙ sym (append_assoc c.loop-command.yielded (c.in-Some.command ∷ []) (into_iter_items c.next.new.self));
       counted = c.in_ok-met.ensures.counted ∙ ap (λ n. n + 1) c.loop-command.invariant.counted ∙ sym (length_push c.loop-command.yielded c.in-Some.command);
       each =
-          command_more c.args.script.now.options c.args.script.now.given.name.now c.args.script.now.given.script.now c.args.script.now.commands.now _ _ _ c.loop-command.yielded c.in-Some.command c.loop-command.done.items _
+          command_more c.args.script.now.options c.args.script.now.given.name.now c.args.script.now.told c.args.script.now.commands.now _ _ _ c.loop-command.yielded c.in-Some.command c.loop-command.done.items _
           (string_bytes c.loop-command.text) _ c.loop-command.met _ c.loop-command.invariant.each c.in_ok-met.ensures.told;
       met =
-          met_more c.args.script.now.options c.args.script.now.given.name.now c.args.script.now.given.script.now c.args.script.now.commands.now _ _ _ c.args.same.items c.loop-command.yielded (into_iter_items c.next.new.self)
+          met_more c.args.script.now.options c.args.script.now.given.name.now c.args.script.now.told c.args.script.now.commands.now _ _ _ c.args.same.items c.loop-command.yielded (into_iter_items c.next.new.self)
           c.in-Some.command c.loop-command.done.items _ (string_bytes c.loop-command.text) _ c.loop-command.met _ split c.loop-command.invariant.met c.in_ok-met.ensures.told;
     }
 
@@ -38,7 +38,7 @@ returns-clause-each c =
       c.loop-command.done.items,
       subst
           (λ (l : List Command).
-          TellsEach c.args.script.now.options c.args.script.now.given.name.now c.args.script.now.given.script.now c.args.script.now.commands.now [] (machine_of c.args.device.now) l (machine_of c.loop-command.device)
+          TellsEach c.args.script.now.options c.args.script.now.given.name.now c.args.script.now.told c.args.script.now.commands.now [] (machine_of c.args.device.now) l (machine_of c.loop-command.device)
           c.loop-command.done.items (string_bytes c.loop-command.text)) (sym all) c.loop-command.invariant.each,
     )
 

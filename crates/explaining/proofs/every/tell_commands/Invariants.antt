@@ -9,6 +9,6 @@ abbrev pub invariant-loop-command : goal.invariant-loop-command
 invariant-loop-command l = record {
   split : l.fn.same.items ≡ l.yielded ++ into_iter_items l.command-iterator;
   counted : length l.done.items ≡ length l.yielded;
-  each : TellsEach l.fn.script.options l.fn.script.given.name.now l.fn.script.given.script.now l.fn.script.commands.now [] (machine_of l.initial.device) l.yielded (machine_of l.device) l.done.items (string_bytes l.text);
+  each : TellsEach l.fn.script.options l.fn.script.given.name.now l.fn.script.told l.fn.script.commands.now [] (machine_of l.initial.device) l.yielded (machine_of l.device) l.done.items (string_bytes l.text);
   met : IsMet (machine_of l.initial.device) l.fn.same.items l.yielded (machine_of l.device) l.met.end l.met.ordered;
 }

@@ -1,4 +1,4 @@
-use Rattle.std.proofs.Common.{◌∙◌, Bool, List, subst}
+use Rattle.std.proofs.Common.{◌∙◌, Bool, List, string_bytes, subst}
 use Rattle.std.specs.Option.{IfSome}
 use Rattle.std.specs.Result.{IfOk}
 use Rattle.device.specs.Machine.{machine_of}
@@ -17,7 +17,7 @@ returns-clause-told c =
 
 pub returns-clause-whole : goal.returns-clause-whole
 returns-clause-whole c =
-    whole_there c.args.options c.args.given.name.now c.args.given.script.now c.args.commands.now c.args.ticket c.args.fault.now c.args.schedule (machine_of c.perform_all.new.device) c.in_ok-done.done.items c.explain_case.result
+    whole_there c.args.options c.args.given.name.now c.args.told c.args.commands.now c.args.ticket c.args.fault.now c.args.schedule (machine_of c.perform_all.new.device) c.in_ok-done.done.items c.explain_case.result
     (led_there c.args.options.configuration c.args.commands.now c.in_ok-before.before.items c.args.ticket (machine_of c.new-device.result) (machine_of c.perform_all.new.device) c.in_ok-done.done.items c.new-device.ensures
     (c.in_ok-before.ensures ∙ c.split_at.ensures.front) c.in_ok-done.ensures)
     (subst
@@ -26,7 +26,7 @@ returns-clause-whole c =
     (λ found.
     IfSome found
     (λ told.
-    HasWhole (machine_of c.perform_all.new.device) (tell_options c.args.options) c.args.given.name.now c.args.given.script.now c.args.commands.now l c.args.ticket c.args.fault.now c.args.schedule told.schedule told.whole)))
+    HasWhole (machine_of c.perform_all.new.device) (tell_options c.args.options) c.args.given.name.now c.args.told c.args.commands.now l c.args.ticket c.args.fault.now c.args.schedule told.schedule (string_bytes told.source) told.whole)))
     c.as_slice.ensures.value c.explain_case.ensures.whole)
 
 pub returns-clause-failed : goal.returns-clause-failed

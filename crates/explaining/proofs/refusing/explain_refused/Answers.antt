@@ -1,21 +1,16 @@
 use Rattle.device.specs.Machine.{machine_of}
-use Rattle.telling.proofs.Placing.{within}
 use Rattle.explaining.proofs.Refusals.{told_refusal}
 use Rattle.telling.proofs.Telling.{ok_then}
 use Rattle.std.proofs.Common.{arith}
 use Rattle.explaining.proofs.refusing.explain_refused.Goals as goal
 
-pub place_of-place-requires : goal.place_of-place-requires
-place_of-place-requires c = omega (arith, c.requires.within, c.requires.placed.count)
-
-pub refused_command-requires : goal.refused_command-requires
-refused_command-requires c =
-    within c.args.performed.now.given.script.now c.args.performed.now.commands.now c.args.case.ticket c.place_of-place.result (c.requires.placed.each c.args.case.ticket c.place_of-place.result c.place_of-place.ensures)
+pub place-place-requires : goal.place-place-requires
+place-place-requires c = omega (arith, c.requires.within, c.requires.placed)
 
 pub returns : goal.returns
 returns c =
     ok_then c.written.result _ _ c.written.ensures
     (λ text h.
     told_refusal c.args.performed.now.options.configuration.limits (machine_of c.args.device.now).buffers c.args.performed.now.options.format c.args.performed.now.given.name.now
-    c.args.performed.now.given.script.now c.args.performed.now.commands.now c.args.case.ticket c.place_of-place.result c.args.case.refusal c.in_ok-found.found c.in_ok-told.told _
-    (c.requires.placed.each c.args.case.ticket c.place_of-place.result c.place_of-place.ensures) c.in_ok-told.ensures c.in_ok-found.ensures h)
+    c.args.performed.now.told c.args.performed.now.commands.now c.args.case.ticket c.place-place.result c.args.case.refusal c.in_ok-found.found c.in_ok-told.told _
+    c.place-place.ensures.placed c.in_ok-told.ensures c.in_ok-found.ensures h)

@@ -1,16 +1,12 @@
-use Rattle.std.proofs.Common.{arith, refl, rules}
+use Rattle.std.proofs.Common.{arith, refl, rules, string_bytes}
 use Rattle.std.proofs.lemmas.Option.{slice_get_within}
 use Rattle.device.specs.Machine.{machine_of}
-use Rattle.telling.proofs.Placing.{within}
 use Rattle.telling.proofs.Telling.{leads_prepared, refuses, tells}
 use Rattle.telling.proofs.Wholes.{some_all, whole}
 use Rattle.telling.proofs.told.explain_case.Goals as goal
 
-pub place_of-at-requires : goal.place_of-at-requires
-place_of-at-requires c = omega (arith, slice_get_within c.args.launched.now.commands.now c.args.ticket _ c.in-Some.ensures.launch, c.requires.placed.count)
-
-pub line_text-requires : goal.line_text-requires
-line_text-requires c = within c.args.launched.now.script.now c.args.launched.now.commands.now c.args.ticket c.place_of-at.result (c.requires.placed.each c.args.ticket c.place_of-at.result c.place_of-at.ensures)
+pub place-at-requires : goal.place-at-requires
+place-at-requires c = omega (arith, slice_get_within c.args.launched.now.commands.now c.args.ticket _ c.in-Some.ensures.launch, c.requires.placed)
 
 pub explain_launch-requires-clause-known : goal.explain_launch-requires-clause-known
 explain_launch-requires-clause-known c is =
@@ -24,11 +20,11 @@ returns-clause-told c =
 
 pub returns-clause-whole : goal.returns-clause-whole
 returns-clause-whole c =
-    some_all c.in_ok-explain_launch.field-0 _ _ _ _ _ c.in_ok-explain_launch.ensures.told c.in_ok-explain_launch.ensures.wanted c.in_ok-explain_launch.ensures.given
-    c.in_ok-explain_launch.ensures.whole
-    (λ told short wanted given explained.
-    whole (machine_of c.args.device.now) c.args.launched.now.options c.args.launched.now.name.now c.args.launched.now.script.now c.args.launched.now.commands.now c.args.launched.now.done.now c.args.ticket c.place_of-at.result c.in-Some.kernel.now c.in-Some.range.now c.in-Some.orders _ c.buffers.result.now c.args.fault.now
-    c.args.schedule told.schedule told.whole c.in-Some.ensures.launch c.in-Ok.ensures.prepared c.buffers.ensures c.program_of.ensures (c.requires.placed.each c.args.ticket c.place_of-at.result c.place_of-at.ensures) short wanted given explained refl)
+    some_all c.in_ok-explain_launch.field-0 _ _ _ _ _ _ c.in_ok-explain_launch.ensures.told c.in_ok-explain_launch.ensures.wanted c.in_ok-explain_launch.ensures.given
+    c.in_ok-explain_launch.ensures.source c.in_ok-explain_launch.ensures.whole
+    (λ told short wanted given file explained.
+    whole (machine_of c.args.device.now) c.args.launched.now.options c.args.launched.now.name.now c.args.launched.now.script c.args.launched.now.commands.now c.args.launched.now.done.now c.args.ticket c.place-at.result c.in-Some.kernel.now c.in-Some.range.now c.in-Some.orders _ c.buffers.result.now c.file_of-source.result.now (string_bytes told.source) c.args.fault.now
+    c.args.schedule told.schedule told.whole c.in-Some.ensures.launch c.in-Ok.ensures.prepared c.buffers.ensures c.program_of-program.ensures c.place-at.ensures.placed short wanted given c.file_of-source.ensures file explained refl)
 
 pub returns-in-Err-clause-failed : goal.returns-in-Err-clause-failed
 returns-in-Err-clause-failed c = (

@@ -7,4 +7,4 @@ use Rattle.wide_faults.proofs.faults.faults_of.Goals as goal
 pub returns : goal.returns
 returns c =
     IfOk-weaker c.told_faults.result _ _
-    (λ text tells. subst (λ (m : Machine). TellsFaults c.args.all c.args.places.now 0 m c.args.commands.now text.items) c.new-device.ensures tells) c.told_faults.ensures
+    (λ text tells. subst (λ (m : Machine). TellsFaults c.args.all c.args.told.places.now 0 m c.args.commands.now text.items) c.new-device.ensures tells) c.told_faults.ensures

@@ -4,7 +4,7 @@ use Rattle.wide_text.proofs.widened.report_of.Goals as goal
 
 pub returns : goal.returns
 returns c =
-    let places = c.args.performed.places.now in
+    let places = c.args.performed.told.places.now in
     record {
       clean = c.is_clean.ensures;
       free = c.in_ok-free.ensures ∙ ap (λ f. lines_of f places) c.as_slice.ensures.value;

@@ -7,7 +7,7 @@ use Rattle.wide_text.proofs.widened.widen.Goals as goal
 pub returns-in_err-text-clause-failed : goal.returns-in_err-text-clause-failed
 returns-in_err-text-clause-failed g c =
     let p = err_from_is_err_and c.from_residual.result c.from_residual.ensures.1 in
-    rw (p.1, p.2) (no_script c.args.configuration c.args.script.now c.args.format _ _ c.in_err-text.ensures.failed)
+    rw (p.1, p.2) (no_script c.args.configuration c.args.script.now c.args.written c.args.format _ _ c.in_err-text.ensures.failed)
 
 pub returns-in_err-tell-clause-failed : goal.returns-in_err-tell-clause-failed
 returns-in_err-tell-clause-failed g c =
