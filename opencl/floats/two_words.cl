@@ -54,7 +54,8 @@ ulong double_add(ulong a, ulong b) {
                     if (r == 0u) p += 1u;
                     if (t == 0x80000000u) r &= 0xfffffffeu;
                 }
-                return (ulong)p << 32 | r;
+                a = p;
+                return a << 32 | r;
             }
             if (t != 0u) {
                 t = 0u - t;
@@ -85,7 +86,8 @@ ulong double_add(ulong a, ulong b) {
                     if (r == 0u) p += 1u;
                     if (t == 0x80000000u) r &= 0xfffffffeu;
                 }
-                return (ulong)p << 32 | r;
+                a = p;
+                return a << 32 | r;
             }
         }
     }
@@ -126,14 +128,20 @@ ulong double_mul(ulong a, ulong b) {
                 if (s < 0x200u) p += 1u;
                 r = s & 0x3ffu;
                 r -= 1u;
-                if (r < 0x3fdu) return (ulong)(upper + (p >> 10)) << 32 | (s >> 10 | p << 22);
+                if (r < 0x3fdu) {
+                    x = upper + (p >> 10);
+                    return x << 32 | (s >> 10 | p << 22);
+                }
             } else {
                 upper -= 0x3ff00000u;
                 s = r + 0x400u;
                 if (s < 0x400u) p += 1u;
                 r = s & 0x7ffu;
                 r -= 1u;
-                if (r < 0x7fdu) return (ulong)(upper + (p >> 11)) << 32 | (s >> 11 | p << 21);
+                if (r < 0x7fdu) {
+                    x = upper + (p >> 11);
+                    return x << 32 | (s >> 11 | p << 21);
+                }
             }
         }
     }

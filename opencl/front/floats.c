@@ -46,6 +46,7 @@ static integer call_helper(translator *t, const char *name, const integer *argum
     use_helper(t, (unsigned)number);
     emit(t, "%s %s=%s(%s);", name_of(h->result), variable_name, name, call.at);
     t->out.last->result = variable_name;
+    t->out.last->is_pure = !has_loop((unsigned)number);
     return variable(variable_name, h->result, true);
 }
 
