@@ -2,12 +2,13 @@
 //   - the result of a call, since the language takes a call as the whole right side of an assignment only: where all that
 //     is done with it is to give another variable its value, the call is put there: `uint t1=f(a); x=t1;` is `x=f(a);`;
 //   - a variable, since a later statement may change it: where none does, it stands for itself.
-// The result of a helper that nothing uses isn't worked out, where that can't be a fault.
+// The result of a helper that was called with the same arguments before isn't worked out again: helpers have no effects.
+// Nor is one that nothing uses, where that can't be a fault.
 #include "front.h"
 #include <string.h>
 
 // How many statements may stand between two that are compared, and how often results that are no longer used are sought.
-enum { MOST_BETWEEN = 64, MOST_ROUNDS = 8 };
+enum { MOST_BETWEEN = 64, MOST_ROUNDS = 8, MOST_BEHIND_CALL = 256 };
 
 static bool is_name_byte(char c) {
     return c == '_' || (c >= '0' && c <= '9') || (c >= 'a' && c <= 'z') || (c >= 'A' && c <= 'Z');
@@ -138,16 +139,104 @@ static bool replace_copy(translator *t, statement *s) {
     return true;
 }
 
+// ---- calls that were made before ----
+
+// What a statement that declares the result of a helper gives it; NULL of any other, and of one that accesses memory.
+static const char *pure_call(const statement *s) {
+    if (!is_text(s) || !s->is_pure || strchr(s->text, '\1') || strchr(s->text, '[')) return NULL;
+    const char *equals = strchr(s->text, '=');
+    return equals && memchr(s->text, ' ', (size_t)(equals - s->text)) ? equals + 1 : NULL;
+}
+
+static bool has_word(const char *text, const char *word, size_t n) {
+    for (const char *at = text; *at; at += *at != 0) {
+        size_t m = 0;
+        while (is_name_byte(at[m])) m++;
+        if (m == n && !memcmp(at, word, n)) return true;
+        at += m;
+        if (!*at) break;
+    }
+    return false;
+}
+
+// Whether the two texts have a name in common.
+static bool share_names(const char *text, const char *other) {
+    for (size_t n; *text; text += n + !n) {
+        for (n = 0; is_name_byte(text[n]);) n++;
+        if (n && has_word(other, text, n)) return true;
+    }
+    return false;
+}
+
+// Whether a statement, or one that it holds, may give another value to a variable that a call takes. A text begins with
+// the variable that it gives a value, or with its type, which a space follows: that one is new.
+static bool changes_argument(const statement *s, const char *call) {
+    const char *text = s->kind == FLAG ? s->label->leave : s->text;
+    if (s->kind == LEAVING) return true;
+    if (s->kind == LOOP && !strncmp(text, "for", 3) && share_names(text, call)) return true;
+    if (text && (s->kind == TEXT || s->kind == FLAG)) {
+        if (*text == '\1') text = strchr(text, '\2') + 1;
+        size_t n = 0;
+        while (is_name_byte(text[n])) n++;
+        if (n && text[n] != ' ' && has_word(call, text, n)) return true;
+    }
+    for (const statement *u = s->first.first; u; u = u->next)
+        if (changes_argument(u, call)) return true;
+    for (const statement *u = s->second.first; u; u = u->next)
+        if (changes_argument(u, call)) return true;
+    return false;
+}
+
+static void rename_in(translator *t, list l, const char *name, const char *other) {
+    for (statement *s = l.first; s; s = s->next) {
+        if (s->text && has_name(s->text, name)) s->text = renamed(t, s->text, name, other);
+        if (s->end && has_name(s->end, name)) s->end = renamed(t, s->end, name, other);
+        if (s->copied && !strcmp(s->copied, name)) s->copied = other;
+        rename_in(t, s->first, name, other);
+        rename_in(t, s->second, name, other);
+    }
+}
+
+// Takes the calls behind one out of a list, and out of what its statements hold, that give the same. `left` is how many
+// statements are still looked at.
+static void share_call(translator *t, list *l, statement *before, const statement *made, unsigned *left) {
+    const char *call = pure_call(made);
+    for (statement *s = before ? before->next : l->first; s && *left; s = s->next) {
+        const char *again = pure_call(s);
+        --*left;
+        if (again && !strcmp(again, call)) {
+            rename_in(t, (list){s->next, NULL}, s->result, made->result);
+            take_out(l, before, s);
+            continue;
+        }
+        if (changes_argument(s, call)) {
+            *left = 0;
+            return;
+        }
+        share_call(t, &s->first, NULL, made, left);
+        share_call(t, &s->second, NULL, made, left);
+        before = s;
+    }
+}
+
+static void share_calls(translator *t, list *l) {
+    for (statement *s = l->first; s; s = s->next) {
+        unsigned left = MOST_BEHIND_CALL;
+        if (pure_call(s)) share_call(t, l, s, s, &left);
+        share_calls(t, &s->first);
+        share_calls(t, &s->second);
+    }
+}
+
 // ---- results that nothing uses ----
 
 // Whether a statement declares a variable that nothing uses, with a value that is worked out without a fault: of
 // variables that are set, by a helper without loops.
 static bool is_useless(translator *t, const statement *s) {
-    if (!s->is_pure || *s->text == '\1' || strchr(s->text, '[')) return false;
-    const char *space = strchr(s->text, ' '), *equals = strchr(s->text, '=');
-    if (!space || !equals || space > equals) return false;
-    const char *name = copy_text(&t->pass, space + 1, (size_t)(equals - space) - 1);
-    return uses_of(t, name) == 1 && !has_unset_name(t, equals + 1);
+    const char *call = pure_call(s);
+    if (!call) return false;
+    const char *name = strchr(s->text, ' ') + 1;
+    return uses_of(t, copy_text(&t->pass, name, (size_t)(call - name) - 1)) == 1 && !has_unset_name(t, call);
 }
 
 // ---- all of them ----
@@ -171,6 +260,7 @@ static bool shorten(translator *t, list *l, shortening how) {
 }
 
 list shortened(translator *t, list l) {
+    share_calls(t, &l);
     count_in(t, l);
     shorten(t, &l, JOINED);
     forget_counts(t);
