@@ -3,7 +3,8 @@
 /* a * b. Where both exponents are far from their ends, that of the product is none of them. `upper` has the sum of the
    exponents with that of the signs, whose carry leaves the word. Both significands have their leading one at bit
    WIDTH - 1; the upper word of their product, which is a then, has it there, or at the bit below, and adds 1 to the
-   exponent. The lower word counts where a half is cut off. (A declaration makes 64 bits of a word in less than a cast.) */
+   exponent. The lower word counts where a half is cut off. (A declaration makes 64 bits of a word in fewer steps than a
+   cast.) */
 WORD FORMAT_mul(WORD a, WORD b) {
     WORD upper = a & MAGNITUDE_MASK;
     if (upper >= SMALL_BITS) if (upper < LARGE_BITS) {

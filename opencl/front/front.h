@@ -324,8 +324,8 @@ const char *temporary_name(translator *t);
 void take_name(translator *t, const char *text);
 bool is_taken(const translator *t, const char *text);
 // Remembers what a name stands for in the client's source.
-// Counts the names in a text, and says how often one was counted; notes those that may be read unset, and says whether a
-// text has one. `forget_counts` begins anew.
+// Counts the names in a text, and says how often one was counted; notes those that may be read unset, and says whether
+// a text has one. `forget_counts` begins anew.
 void count_names(translator *t, const char *text);
 unsigned uses_of(const translator *t, const char *text);
 void note_unset_name(translator *t, const char *text, size_t length);

@@ -1,13 +1,15 @@
 // A kernel's text with fewer steps. What takes statements is kept in variables of its own, where another one does:
-//   - the result of a call, since the language takes a call as the whole right side of an assignment only: where all that
-//     is done with it is to give another variable its value, the call is put there: `uint t1=f(a); x=t1;` is `x=f(a);`;
+//   - the result of a call, since the language takes a call as the whole right side of an assignment only: where all
+//     that is done with it is to give another variable its value, the call is put there: `uint t1=f(a); x=t1;` is
+//     `x=f(a);`;
 //   - a variable, since a later statement may change it: where none does, it stands for itself.
-// The result of a helper that was called with the same arguments before isn't worked out again: helpers have no effects.
-// Nor is one that nothing uses, where that can't be a fault.
+// The result of a helper that was called with the same arguments before isn't worked out again: helpers have no
+// effects. Nor is one that nothing uses, where that can't be a fault.
 #include "front.h"
 #include <string.h>
 
-// How many statements may stand between two that are compared, and how often results that are no longer used are sought.
+// How many statements may stand between two that are compared, how often results that are no longer used are sought, and
+// how many statements behind a call are looked at for the same one.
 enum { MOST_BETWEEN = 64, MOST_ROUNDS = 8, MOST_BEHIND_CALL = 256 };
 
 static bool is_name_byte(char c) {
