@@ -8,8 +8,8 @@
 #include "front.h"
 #include <string.h>
 
-// How many statements may stand between two that are compared, how often results that are no longer used are sought, and
-// how many statements behind a call are looked at for the same one.
+// How many statements may stand between two that are compared, how often results that are no longer used are sought,
+// and how many statements behind a call are looked at for the same one.
 enum { MOST_BETWEEN = 64, MOST_ROUNDS = 8, MOST_BEHIND_CALL = 256 };
 
 static bool is_name_byte(char c) {
