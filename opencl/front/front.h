@@ -106,8 +106,8 @@ struct statement {
     const call_site *calls; // as in `judged_place`
     unsigned loop;
     const turn_before *before;
-    const char *result; // the variable of its own that it gives the result of a call, or NULL
-    bool is_pure;       // that call is one of a helper without loops
+    const char *result;        // the variable of its own that it gives the result of a call, or NULL
+    bool is_pure;              // that call is one of a helper without loops
     const char *copy, *copied; // the variable of its own that it gives the value of another one, and that, or NULL
 };
 
@@ -231,8 +231,8 @@ typedef struct function_frame {
 typedef struct name {
     struct name *next;
     const char *text;
-    unsigned last; // number that was put behind it
-    unsigned uses; // in the kernel's text, once they are counted
+    unsigned last;     // number that was put behind it
+    unsigned uses;     // in the kernel's text, once they are counted
     bool may_be_unset; // it is declared without a value
 } name;
 
