@@ -9,7 +9,7 @@ s/FRACTION_MASK/0x007fffffu/g
 s/GUARD_BITS/7/g
 s/GUARD_MASK/0x7fu/g
 s/GUARD_HALF/0x40u/g
-s/UPPER_PRODUCT(a, b)/(ulong)a * b >> 32/g
+s/UPPER_PRODUCT(\(.*\), \(.*\))/\1 * \2 >> 32/g
 s/SMALL_BITS/0x20000000u/g
 s/LARGE_BITS/0x5f800000u/g
 s/REST_MASK/0xffu/g

@@ -109,7 +109,8 @@ uint float_rsqrt(uint a) {
     r >>= 16;
     /* x is d + 2^-13 as a fraction of 2^28. */
     x = r * r;
-    x = (ulong)a * x >> 32;
+    ulong wide = a;
+    x = wide * x >> 32;
     x >>= 2;
     x ^= 0x1fffffffu;
     x -= 0x0fff7fffu;

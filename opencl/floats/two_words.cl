@@ -54,7 +54,8 @@ ulong double_add(ulong a, ulong b) {
                     if (r == 0u) p += 1u;
                     if (t == 0x80000000u) r &= 0xfffffffeu;
                 }
-                return (ulong)p << 32 | r;
+                a = p;
+                return a << 32 | r;
             }
             if (t != 0u) {
                 t = 0u - t;
@@ -85,7 +86,8 @@ ulong double_add(ulong a, ulong b) {
                     if (r == 0u) p += 1u;
                     if (t == 0x80000000u) r &= 0xfffffffeu;
                 }
-                return (ulong)p << 32 | r;
+                a = p;
+                return a << 32 | r;
             }
         }
     }
@@ -126,17 +128,76 @@ ulong double_mul(ulong a, ulong b) {
                 if (s < 0x200u) p += 1u;
                 r = s & 0x3ffu;
                 r -= 1u;
-                if (r < 0x3fdu) return (ulong)(upper + (p >> 10)) << 32 | (s >> 10 | p << 22);
+                if (r < 0x3fdu) {
+                    x = upper + (p >> 10);
+                    return x << 32 | (s >> 10 | p << 22);
+                }
             } else {
                 upper -= 0x3ff00000u;
                 s = r + 0x400u;
                 if (s < 0x400u) p += 1u;
                 r = s & 0x7ffu;
                 r -= 1u;
-                if (r < 0x7fdu) return (ulong)(upper + (p >> 11)) << 32 | (s >> 11 | p << 21);
+                if (r < 0x7fdu) {
+                    x = upper + (p >> 11);
+                    return x << 32 | (s >> 11 | p << 21);
+                }
             }
         }
     }
     a = double_mul_rare(a, b);
+    return a;
+}
+
+/* a * a: the same with one number in place of two, whose sign doesn't count. The product of its two words, which counts
+   twice, is shifted by one less. x is right, or too small by 1. */
+ulong double_square(ulong a) {
+    uint p = a >> 32;
+    uint upper = p & 0x7fffffffu;
+    if (upper >= 0x20000000u) if (upper < 0x5ff00000u) {
+        upper &= 0xfff00000u;
+        upper <<= 1;
+        uint r = a;
+        p <<= 11;
+        p |= r >> 21;
+        p |= 0x80000000u;
+        r <<= 11;
+        ulong x = p;
+        x = x * x + (x * r >> 31);
+        p = x >> 32;
+        r = x;
+        if (p < 0x80000000u) {
+            upper -= 0x40000000u;
+            r += 0x200u;
+            if (r < 0x200u) p += 1u;
+            uint rest = r & 0x3ffu;
+            rest -= 1u;
+            if (rest < 0x3fdu) {
+                x = upper + (p >> 10);
+                return x << 32 | (r >> 10 | p << 22);
+            }
+        } else {
+            upper -= 0x3ff00000u;
+            r += 0x400u;
+            if (r < 0x400u) p += 1u;
+            uint rest = r & 0x7ffu;
+            rest -= 1u;
+            if (rest < 0x7fdu) {
+                x = upper + (p >> 11);
+                return x << 32 | (r >> 11 | p << 21);
+            }
+        }
+    }
+    a = double_mul_rare(a, a);
+    return a;
+}
+
+/* a * 2^n, where `power` has n in the place of the exponent, from -511 to 511. So where a usual a stands, the exponent
+   of the product is neither of its ends, and the fraction stays. */
+ulong double_mul_power(ulong a, ulong power) {
+    uint x = a >> 32;
+    x &= 0x7fffffffu;
+    if (x >= 0x20000000u) if (x < 0x5ff00000u) return a + power;
+    a = double_mul(a, power + 0x3ff0000000000000ul);
     return a;
 }

@@ -46,6 +46,7 @@ static integer call_helper(translator *t, const char *name, const integer *argum
     use_helper(t, (unsigned)number);
     emit(t, "%s %s=%s(%s);", name_of(h->result), variable_name, name, call.at);
     t->out.last->result = variable_name;
+    t->out.last->is_pure = !has_loop((unsigned)number);
     return variable(variable_name, h->result, true);
 }
 
@@ -158,9 +159,36 @@ void need_format(translator *t, const type *type, const place *at) {
         refuse_at(t, at, "Clsim has no numbers of the type %s but in memory", number->name);
 }
 
+// Whether a number of a format is 2^n, for an n other than 0 that the helper mul_power takes.
+static bool is_power(integer v, unsigned width, int *n) {
+    unsigned fraction = width == 4 ? 23 : 52;
+    int bias = width == 4 ? 127 : 1023, most = width == 4 ? 63 : 511;
+    if (!v.is_literal || v.value & ((UINT64_C(1) << fraction) - 1)) return false;
+    *n = (int)(v.value >> fraction) - bias;
+    return *n && *n >= -most && *n <= most;
+}
+
+// A number by 2^n: its exponent alone changes.
+static integer by_power(translator *t, integer v, int n, unsigned width) {
+    integer both[] = {v, literal(t, (uint64_t)n << (width == 4 ? 23 : 52), integer_of(width, false))};
+    return call_helper(t, format(t, "%s_mul_power", width == 4 ? "float" : "double"), both);
+}
+
+// Whether two values are the same one, which is worked out without an effect.
+static bool are_same(integer a, integer b) {
+    return !a.is_literal && !a.has_effect && a.type == b.type && a.pending == b.pending && !strcmp(a.text, b.text);
+}
+
 integer float_operator(translator *t, operation op, integer a, integer b, unsigned width) {
     const float_operation *f = float_operation_named(operator_name(op));
     integer both[] = {a, b};
+    int n;
+    bool is_format = width == 4 || width == 8, is_product = op == MULTIPLY;
+    if (is_format && is_product && !b.is_literal && is_power(a, width, &n)) return by_power(t, b, n, width);
+    if (is_format && is_product && !a.is_literal && is_power(b, width, &n)) return by_power(t, a, n, width);
+    if (is_format && op == DIVIDE && !a.is_literal && is_power(b, width, &n)) return by_power(t, a, -n, width);
+    if (is_format && is_product && are_same(a, b))
+        return call_helper(t, width == 4 ? "float_square" : "double_square", &a);
     if (!f || (width != 4 && width != 8)) refuse_at(t, t->at, "Clsim has no such operator of floating-point numbers");
     return float_result(t, f, width, both);
 }

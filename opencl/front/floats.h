@@ -18,6 +18,7 @@ unsigned helper_count(void);
 const helper *helper_at(unsigned number);
 // The number of a helper, or NO_HELPER.
 int helper_named(const char *name);
+bool has_loop(unsigned number); // in itself or in a helper that it calls
 // The types of its parameters; how many there are.
 unsigned parameters_of(const helper *h, integer_type *types);
 // What a helper gives for arguments that are known. False where it isn't worked out here.

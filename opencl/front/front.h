@@ -106,7 +106,9 @@ struct statement {
     const call_site *calls; // as in `judged_place`
     unsigned loop;
     const turn_before *before;
-    const char *result; // the variable of its own that it gives the result of a call, or NULL
+    const char *result;        // the variable of its own that it gives the result of a call, or NULL
+    bool is_pure;              // that call is one of a helper without loops
+    const char *copy, *copied; // the variable of its own that it gives the value of another one, and that, or NULL
 };
 
 // ---- objects ----
@@ -229,8 +231,9 @@ typedef struct function_frame {
 typedef struct name {
     struct name *next;
     const char *text;
-    unsigned last; // number that was put behind it
-    unsigned uses; // in the kernel's text, once they are counted
+    unsigned last;     // number that was put behind it
+    unsigned uses;     // in the kernel's text, once they are counted
+    bool may_be_unset; // it is declared without a value
 } name;
 
 typedef struct note {
@@ -321,9 +324,15 @@ const char *temporary_name(translator *t);
 void take_name(translator *t, const char *text);
 bool is_taken(const translator *t, const char *text);
 // Remembers what a name stands for in the client's source.
-// Counts the names in a text, and says how often one was counted.
+// Counts the names in a text, and says how often one was counted; notes those that may be read unset, and says whether
+// a text has one. `forget_counts` begins anew.
 void count_names(translator *t, const char *text);
 unsigned uses_of(const translator *t, const char *text);
+void note_unset_name(translator *t, const char *text, size_t length);
+bool has_unset_name(const translator *t, const char *text);
+void forget_counts(translator *t);
+// Whether a text has a name as a word.
+bool has_name(const char *text, const char *name);
 void show_name(translator *t, const char *judged, const char *shown);
 // The calls round what is being translated.
 const call_site *calls_here(const translator *t);
@@ -608,9 +617,9 @@ void translate_kernel(translator *t, const node *function, judged_kernel *k, tex
 // Whether a name is a word of the language, or one of the driver's own.
 bool is_reserved_name(const char *name);
 
-// ---- joined.c ----
-// The list of a kernel or of a function, with calls put where their results are used.
-list with_calls_joined(translator *t, list l);
+// ---- shortened.c ----
+// The list of a kernel or of a function with fewer statements, which do the same.
+list shortened(translator *t, list l);
 
 // ---- writer.c ----
 // Notes the place of what is written next.

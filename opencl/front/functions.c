@@ -168,7 +168,7 @@ void write_functions(translator *t, text *to) {
     for (const own_function *f = t->written; f; f = f->written) {
         add_place(t, (judged_place){.offset = to->length, .at = &f->function->place});
         add(to, f->head);
-        write_list(t, to, with_calls_joined(t, f->body));
+        write_list(t, to, shortened(t, f->body));
         add(to, "}\n");
     }
 }

@@ -34,6 +34,22 @@ int helper_named(const char *name) {
     return NO_HELPER;
 }
 
+// A turn of a loop is a tick.
+bool has_loop(unsigned number) {
+    static signed char known[sizeof helpers / sizeof *helpers]; // 1 for one that has, -1 for one that hasn't
+    const helper *h = &helpers[number].helper;
+    if (known[number]) return known[number] > 0;
+    bool has = strstr(h->text, "while(") || strstr(h->text, "while (") || strstr(h->text, "for (");
+    for (unsigned i = 0; i < number && !has; i++) {
+        const char *name = helpers[i].helper.name, *at = strstr(h->calls, name);
+        size_t n = strlen(name);
+        for (; at && !has; at = strstr(at + n, name))
+            has = (at == h->calls || at[-1] == ' ') && (at[n] == ' ' || !at[n]) && has_loop(i);
+    }
+    known[number] = has ? 1 : -1;
+    return has;
+}
+
 static integer_type type_named(const char *word, size_t length) {
     for (integer_type i = CHAR; i <= ULONG; i++)
         if (strlen(name_of(i)) == length && !memcmp(word, name_of(i), length)) return i;

@@ -379,7 +379,7 @@ void translate_kernel(translator *t, const node *function, judged_kernel *k, tex
     list begin = t->uses_null ? one_text(t, "uchar clsim_null[1];", at) : (list){NULL, NULL};
     if (t->prints) append_list(&begin, begin_of_printing(t, at));
     if (t->uses_copies) append_list(&begin, begin_of_copies(t, at));
-    append_list(&begin, with_calls_joined(t, t->out));
+    append_list(&begin, shortened(t, t->out));
     write_list(t, to, begin);
     add(to, "}\n");
     k->length = to->length - k->begin;

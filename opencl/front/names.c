@@ -22,7 +22,7 @@ bool is_taken(const translator *t, const char *text) { return find_name(t, text)
 void take_name(translator *t, const char *text) {
     name *n = take(&t->pass, sizeof *n);
     unsigned bucket = bucket_of(text, strlen(text));
-    *n = (name){t->names[bucket], text, 1, 0};
+    *n = (name){.next = t->names[bucket], .text = text, .last = 1};
     t->names[bucket] = n;
 }
 
@@ -57,6 +57,32 @@ void count_names(translator *t, const char *text) {
         name *found = n ? find_word(t, text, n) : NULL;
         if (found) found->uses++;
     }
+}
+
+void forget_counts(translator *t) {
+    for (unsigned i = 0; i < BUCKETS; i++)
+        for (name *n = t->names[i]; n; n = n->next) n->uses = n->may_be_unset = 0;
+}
+
+void note_unset_name(translator *t, const char *text, size_t length) {
+    name *found = find_word(t, text, length);
+    if (found) found->may_be_unset = true;
+}
+
+bool has_unset_name(const translator *t, const char *text) {
+    for (size_t n; *text; text += n + !n) {
+        for (n = 0; is_name_byte(text[n]);) n++;
+        const name *found = n ? find_word(t, text, n) : NULL;
+        if (found && found->may_be_unset) return true;
+    }
+    return false;
+}
+
+bool has_name(const char *text, const char *name) {
+    size_t n = strlen(name);
+    for (const char *at = text; (at = strstr(at, name)); at += n)
+        if ((at == text || !is_name_byte(at[-1])) && !is_name_byte(at[n])) return true;
+    return false;
 }
 
 unsigned uses_of(const translator *t, const char *text) {

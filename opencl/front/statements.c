@@ -42,9 +42,35 @@ typedef struct {
     list before;
 } loop_test;
 
-static loop_test test_of(translator *t, const node *n) {
+// A condition whose right side needs statements is left in front of these, so that what they work out stands beside the
+// loop's body, which may use it too.
+static integer both_conditions(translator *t, integer left, list behind, integer right, const place *at) {
+    if (left.is_literal || behind.first) {
+        if (!left.is_literal) append(t, break_unless(t, left, at));
+        append_list(&t->out, behind);
+        return right;
+    }
+    if (right.is_literal && right.value) return is_not_zero(t, left);
+    return joined_conditions(t, LOGICAL_AND, left, right);
+}
+
+static integer loop_condition(translator *t, const node *n, const place *at) {
+    bool is_and = n->kind == BINARY_EXPRESSION && n->operation == LOGICAL_AND && n->type->kind != VECTOR_TYPE;
+    if (!is_and) return condition(t, n);
+    go_deeper(t, &n->place);
+    integer test = loop_condition(t, n->parts[0], at);
+    if (!test.is_literal || test.value) {
+        list before = begin_list(t);
+        integer right = loop_condition(t, n->parts[1], at);
+        test = both_conditions(t, test, end_list(t, before), right, at);
+    }
+    t->depth--;
+    return test;
+}
+
+static loop_test test_of(translator *t, const node *n, const place *at) {
     list before = begin_list(t);
-    integer test = n ? condition(t, n) : literal(t, 1, INT);
+    integer test = n ? loop_condition(t, n, at) : literal(t, 1, INT);
     return (loop_test){test, end_list(t, before)};
 }
 
@@ -66,7 +92,7 @@ static void append_loop(translator *t, unsigned number, const char *head, list b
 }
 
 static void translate_while(translator *t, const node *n, unsigned number) {
-    loop_test c = test_of(t, n->parts[0]);
+    loop_test c = test_of(t, n->parts[0], &n->place);
     list body = statement_list_of(t, n->parts[1]);
     if (is_never(&c)) return;
     if (!c.before.first) {
@@ -95,7 +121,7 @@ static const char *new_flag(translator *t) {
 
 static void translate_do(translator *t, const node *n, unsigned number) {
     list body = statement_list_of(t, n->parts[0]);
-    loop_test c = test_of(t, n->parts[1]);
+    loop_test c = test_of(t, n->parts[1], &n->place);
     t->at = &n->place;
     if (!c.before.first) {
         append_loop(t, number, "do", body, format(t, "while(%s);", c.test.text), &n->place);
@@ -172,7 +198,7 @@ static void translate_for(translator *t, const node *n, unsigned number) {
     for_parts p = {.number = number, .has_continue = has_continue(n->parts[3])};
     if (n->parts[0]) translate_statement(t, n->parts[0], false);
     t->at = &n->place;
-    p.test = test_of(t, n->parts[1]);
+    p.test = test_of(t, n->parts[1], &n->place);
     list outside = begin_list(t);
     if (n->parts[2]) evaluate_effects(t, n->parts[2]);
     p.step = end_list(t, outside);

@@ -112,6 +112,10 @@ integer kept(translator *t, integer v) {
     const char *name = temporary_name(t);
     integer_type type = type_of(&v);
     emit(t, "%s %s=%s;", name_of(type), name, v.text);
+    if (v.depth == 1 && v.pending == NO_INTEGER && !v.has_effect) {
+        t->out.last->copy = name;
+        t->out.last->copied = v.text;
+    }
     return variable(name, type, true);
 }
 
@@ -192,6 +196,20 @@ static void evaluate_one(translator *t, operand *o) {
     o->value = get(t, o->storage, &o->node->place);
 }
 
+static bool is_named_in(list l, const char *name) {
+    for (const statement *s = l.first; s; s = s->next)
+        if ((s->text && has_name(s->text, name)) || (s->end && has_name(s->end, name)) || is_named_in(s->first, name) ||
+            is_named_in(s->second, name))
+            return true;
+    return false;
+}
+
+// Whether a value is a variable that statements don't have, so that they can't change it.
+static bool is_left_alone(const value *v, list behind) {
+    if (v->kind != INTEGER_VALUE || v->integer.has_effect || v->integer.depth > 1) return false;
+    return !is_named_in(behind, v->integer.text);
+}
+
 // What was evaluated in front of an operand that needs statements is kept in variables in front of these.
 void evaluate(translator *t, operand *operands, unsigned count) {
     for (unsigned i = 0; i < count; i++) {
@@ -200,7 +218,8 @@ void evaluate(translator *t, operand *operands, unsigned count) {
         if (t->out.last == last) continue;
         list behind = cut_behind(t, last);
         for (unsigned j = 0; j < i; j++)
-            if (!is_fixed_value(&operands[j].value)) operands[j].value = kept_value(t, operands[j].value);
+            if (!is_fixed_value(&operands[j].value) && !is_left_alone(&operands[j].value, behind))
+                operands[j].value = kept_value(t, operands[j].value);
         append_list(&t->out, behind);
     }
 }

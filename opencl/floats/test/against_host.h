@@ -84,6 +84,9 @@ static void EACH(arithmetic)(WORD a, WORD b) {
     EACH(want)("sub", a, b, 0, H(sub)(a, b), x - y);
     EACH(want)("mul", a, b, 0, H(mul)(a, b), x * y);
     EACH(want)("div", a, b, 0, H(div)(a, b), x / y);
+    EACH(want)("square", a, 0, 0, H(square)(a), x * x);
+    int n = (int)(chance() % (WIDTH == 32 ? 127 : 1023)) - (WIDTH == 32 ? 63 : 511);
+    EACH(want)("mul_power", a, (ulong)n, 0, H(mul_power)(a, (WORD)n << FRACTION), x * M(ldexp)(1, n));
     EACH(want_number)("equal", a, b, (ulong)H(equal)(a, b), x == y);
     EACH(want_number)("less", a, b, (ulong)H(less)(a, b), x < y);
     EACH(want_number)("less_equal", a, b, (ulong)H(less_equal)(a, b), x <= y);

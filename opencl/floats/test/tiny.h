@@ -23,6 +23,9 @@ static void EACH(two_arguments)(uint a, uint b) {
 
 static void EACH(test)(void) {
     for (uint a = 0; a < 256; a++) {
+        EACH(want)("square", a, 0, 0, H(square)(a), tiny_bits(tiny_value(a) * tiny_value(a)));
+        for (int n = -3; n <= 3; n++)
+            EACH(want)("mul_power", a, (uint)n, 0, H(mul_power)(a, (ulong)n << 3), tiny_bits(ldexp(tiny_value(a), n)));
         EACH(want)("sqrt", a, 0, 0, H(sqrt)(a), tiny_bits(sqrt(tiny_value(a))));
         EACH(want)("rint", a, 0, 0, H(to_integral)(0, a), tiny_bits(rint(tiny_value(a))));
         EACH(want)("round", a, 0, 0, H(to_integral)(4, a), tiny_bits(round(tiny_value(a))));

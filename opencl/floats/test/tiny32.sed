@@ -11,7 +11,7 @@ s/FRACTION_MASK/0x07u/g
 s/GUARD_BITS/27/g
 s/GUARD_MASK/0x7ffffffu/g
 s/GUARD_HALF/0x4000000u/g
-s/UPPER_PRODUCT(a, b)/(ulong)a * b >> 32/g
+s/UPPER_PRODUCT(\(.*\), \(.*\))/\1 * \2 >> 32/g
 s/SMALL_BITS/0x20u/g
 s/LARGE_BITS/0x58u/g
 s/REST_MASK/0xfffffffu/g
