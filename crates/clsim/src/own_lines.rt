@@ -2,6 +2,7 @@
 #![tactic(auto)]
 
 ghost use Rattle.std.specs.Prelude.{◌≡◌, IfOk, Option};
+ghost use Rattle.clsim.specs.declared.own_lines.OwnLines.{OwnLines};
 ghost use Rattle.clsim.specs.OwnLines.{AreLent, AreOwn, IsLent, begins_at, lines_at, lines_of};
 
 use clmodel::text::Bytes;
