@@ -9,13 +9,14 @@
 //! refusal. Refusals are tested in their order; refusal 16 comes where memory is refused.
 #![tactic(auto)]
 
-ghost use Rattle.std.specs.Prelude.{◌≡◌, [], IfOk, IfErr, IfSome, Some, is_some, false, ◌≤◌, ◌<◌, ◌+◌, ◌^◌, length, nat_lt};
+ghost use Rattle.std.specs.Prelude.{◌≡◌, IfOk, IfErr, IfSome, Some, is_some, false, ◌≤◌, ◌<◌, ◌+◌, ◌^◌, length, nat_lt};
 ghost use Rattle.std.specs.Option.{option_map};
 ghost use Rattle.clmodel.specs.Tree.{program};
 ghost use Rattle.clmodel.specs.Typing.Sizes.{parameter_limit};
 ghost use Rattle.group_join.specs.Ends.{EndsIn};
 ghost use Rattle.item_step.specs.Launches.{setup_of};
 ghost use Rattle.launches.specs.Groups.{HasGroups};
+ghost use Rattle.spaces.specs.FlagRows.{AreFit};
 ghost use Rattle.spaces.specs.Tables.{find};
 ghost use Rattle.device.specs.Kept.{ActsAs, AllCompiled, IsCodeOf};
 
@@ -65,7 +66,7 @@ pub struct Device {
     programs: Table<Checked>,
     kernels: Table<CompiledKernel>,
     ghost kept: { AllCompiled programs kernels },
-    ghost set: { buffers.flags ≡ [] },
+    ghost fit: { AreFit buffers.bytes buffers.flags },
 }
 
 impl Device {
@@ -84,10 +85,10 @@ impl Device {
         }
     }
 
-    /// The buffers with their bytes, all of which are set.
+    /// The buffers with their bytes and their flags.
     pub fn buffers(&self) -> &Buffers
         ensures bytes { result.now.bytes ≡ (machine_of self.now).buffers }
-        ensures set { result.now.flags ≡ [] }
+        ensures flags { result.now.flags ≡ (machine_of self.now).flags }
     {
         &self.buffers
     }
@@ -138,11 +139,12 @@ impl Device {
         }
     }
 
-    /// Makes a buffer of zero bytes, at least one. It is refused where something has the name, with a size that the
-    /// limits don't allow, where as many buffers are there as they allow, and where memory runs out.
-    fn make_buffer(&mut self, name: Name, size: u64) -> Result<Reply, Refusal>
-        ensures ok { IfOk result (λ reply. Answers (machine_of self.old) (Command.Buffer name size) reply (machine_of self.new)) }
-        ensures err { IfErr result (λ refusal. Step (machine_of self.old) (Command.Buffer name size) (Reply.Refused refusal) (machine_of self.new)) }
+    /// Makes a buffer of zero bytes, at least one; with `unset` all of them are unset. It is refused where something
+    /// has the name, with a size that the limits don't allow, where as many buffers are there as they allow, and where
+    /// memory runs out.
+    fn make_buffer(&mut self, name: Name, size: u64, unset: bool) -> Result<Reply, Refusal>
+        ensures ok { IfOk result (λ reply. Answers (machine_of self.old) (Command.Buffer name size unset) reply (machine_of self.new)) }
+        ensures err { IfErr result (λ refusal. Step (machine_of self.old) (Command.Buffer name size unset) (Reply.Refused refusal) (machine_of self.new)) }
     {
         if self.is_used(&name) {
             return Err(Refusal::NameInUse);
@@ -153,12 +155,12 @@ impl Device {
         if self.buffers.bytes.len() >= self.configuration.limits.buffers {
             return Err(Refusal::TooManyBuffers);
         }
-        let bytes = Bytes::zeros(self.alloc, size as usize)?;
-        self.buffers.bytes.insert(name, bytes)?;
+        self.buffers
+            .make(self.alloc, name, size as usize, unset)?;
         Ok(Reply::Done)
     }
 
-    /// Writes bytes into a buffer from an offset on. It is refused where there is no such buffer, without bytes, and
+    /// Writes bytes into a buffer from an offset on; they are set then. It is refused where there is no such buffer, without bytes, and
     /// where they pass the buffer's end.
     fn write(&mut self, name: &Name, offset: u64, bytes: &Bytes) -> Result<Reply, Refusal>
         ensures ok { IfOk result (λ reply. Answers (machine_of self.old) (Command.Write name.now offset bytes.now) reply (machine_of self.new)) }
@@ -174,13 +176,13 @@ impl Device {
             return Err(Refusal::OutOfRange);
         }
         self.buffers
-            .bytes
             .write(name, offset as usize, bytes.as_slice());
         Ok(Reply::Done)
     }
 
-    /// Fills `count` bytes of a buffer from an offset on with copies of a pattern. It is refused where there is no such
-    /// buffer, where the pattern's length, the offset or the count is bad, and where they pass the buffer's end.
+    /// Fills `count` bytes of a buffer from an offset on with copies of a pattern; they are set then. It is refused
+    /// where there is no such buffer, where the pattern's length, the offset or the count is bad, and where they pass
+    /// the buffer's end.
     fn fill(
         &mut self,
         name: &Name,
@@ -202,13 +204,13 @@ impl Device {
         }
         let pattern = pattern.as_slice();
         self.buffers
-            .bytes
             .fill(name, offset as usize, count as usize, pattern);
         Ok(Reply::Done)
     }
 
-    /// Copies `count` bytes from one buffer to another, or within one where the parts don't overlap. It is refused
-    /// where there is no such buffer, with no bytes, past an end, with an overlap, and where memory runs out.
+    /// Copies `count` bytes from one buffer to another, or within one where the parts don't overlap; those that are
+    /// unset are unset there too. It is refused where there is no such buffer, with no bytes, past an end, with an
+    /// overlap, and where memory runs out.
     fn copy(
         &mut self,
         source: &Name,
@@ -237,13 +239,12 @@ impl Device {
         }
         let (at, target_at) = (offset as usize, target_offset as usize);
         self.buffers
-            .bytes
             .copy(self.alloc, source, at, target, target_at, count as usize)?;
         Ok(Reply::Done)
     }
 
     /// Reads `count` bytes of a buffer from an offset on. It is refused where there is no such buffer, with no bytes,
-    /// where they pass the buffer's end, and where memory runs out.
+    /// where they pass the buffer's end, where one of them is unset, and where memory runs out.
     fn read(&self, name: &Name, offset: u64, count: u64) -> Result<Reply, Refusal>
         ensures ok { IfOk result (λ reply. Answers (machine_of self.now) (Command.Read name.now offset count) reply (machine_of self.now)) }
         ensures err { IfErr result (λ refusal. Step (machine_of self.now) (Command.Read name.now offset count) (Reply.Refused refusal) (machine_of self.now)) }
@@ -256,6 +257,9 @@ impl Device {
         }
         if is_outside(buffer, offset, count) {
             return Err(Refusal::OutOfRange);
+        }
+        if let Some(byte) = self.buffers.lowest_unset(name, offset, count) {
+            return Err(Refusal::UnsetBytes(byte));
         }
         let found = &buffer.as_slice()[offset as usize..(offset + count) as usize];
         Ok(Reply::Data(Bytes::copy_of(self.alloc, found)?))
@@ -296,7 +300,7 @@ impl Device {
         if self.is_in_use(name) {
             return Err(Refusal::InUse);
         }
-        self.buffers.bytes.remove(name);
+        self.buffers.remove(name);
         self.programs.remove(name);
         self.kernels.remove(name);
         Ok(Reply::Done)
@@ -392,7 +396,7 @@ impl Device {
         ensures err { IfErr result (λ refusal. Step (machine_of self.old) command (Reply.Refused refusal) (machine_of self.new)) }
     {
         match command {
-            Command::Buffer { name, size } => self.make_buffer(name, size),
+            Command::Buffer { name, size, unset } => self.make_buffer(name, size, unset),
             Command::Write {
                 buffer,
                 offset,

@@ -50,7 +50,7 @@ launch_told false old setup f runs new (reaches, reported, merged, same) = (reac
 
 does : (old new : Machine) (c : Command) (f : Fault) (runs : List EventRun) → first (row old c) ≡ None → Does old c (reply.Fault f runs) new → Faults new f runs c
 unfolding is_fault
-does old new (command.Buffer name size) f runs e h = absurd (no_fault f runs reply.Done refl h.0)
+does old new (command.Buffer name size unset) f runs e h = absurd (no_fault f runs reply.Done refl h.0)
 does old new (command.Write name at bytes) f runs e h = absurd (no_fault f runs reply.Done refl h.0)
 does old new (command.Fill name at count pattern) f runs e h = absurd (no_fault f runs reply.Done refl h.0)
 does old new (command.Copy source at target to count) f runs e h = absurd (no_fault f runs reply.Done refl h.0)

@@ -21,11 +21,11 @@ IsRefusalText format.Text told text = IsRefusedText told text
 IsRefusalText format.Json told text = IsCommandLine told text
 
 -- A text tells the refusal of the command of a number, with the place of the command in the script. The reason that it
--- gives, if it gives one, holds of the command, of these limits and of these buffers.
-pub record TellsRefusal (limits : Limits) (buffers : Table (List ℕ)) (f : Format) (name script : List ℕ) (commands : List Command) (ticket : ℕ) (refusal : Refusal) (text : List ℕ) : Type 0 where
+-- gives, if it gives one, holds of the command, of these limits and of these buffers with their flags.
+pub record TellsRefusal (limits : Limits) (buffers flags : Table (List ℕ)) (f : Format) (name script : List ℕ) (commands : List Command) (ticket : ℕ) (refusal : Refusal) (text : List ℕ) : Type 0 where
   pub place : CommandPlace
   pub stands : StandsAt script commands ticket place
   pub told : RefusedCommand
   pub tells : TellsRefused name script ticket place refusal told.why told
-  pub holds : (command : Command) → slice_get commands ticket ≡ Some command → IfSome told.why (Holds limits buffers command)
+  pub holds : (command : Command) → slice_get commands ticket ≡ Some command → IfSome told.why (Holds limits buffers flags command)
   pub written : IsRefusalText f told text

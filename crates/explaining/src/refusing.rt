@@ -66,7 +66,7 @@ fn reason_at(
     case: RefusedCase,
 ) -> Result<Option<Found>, AllocError>
     ensures { (command : CommandOf) → slice_get performed.now.commands.now case.ticket ≡ Some command
-        → IfOk result (λ found. IfSome found (λ f. Holds performed.now.options.configuration.limits (machine_of device.now).buffers command f.reason)) }
+        → IfOk result (λ found. IfSome found (λ f. Holds performed.now.options.configuration.limits (machine_of device.now).buffers (machine_of device.now).flags command f.reason)) }
 {
     let Some(command) = performed.commands.get(case.ticket) else {
         return Ok(None);
@@ -75,7 +75,7 @@ fn reason_at(
     let refusing = Refusing {
         alloc,
         limits: performed.options.configuration.limits,
-        buffers: &device.buffers().bytes,
+        buffers: device.buffers(),
         before: done.commands.as_slice(),
         places: done.places.as_slice(),
     };
@@ -101,7 +101,7 @@ pub(crate) fn explain_refused(
 ) -> Result<String, AllocError>
     requires placed { AreAt performed.now.given.script.now performed.now.commands.now performed.now.places.now }
     requires within { case.ticket < length performed.now.commands.now }
-    ensures { IfOk result (λ text. TellsRefusal performed.now.options.configuration.limits (machine_of device.now).buffers performed.now.options.format
+    ensures { IfOk result (λ text. TellsRefusal performed.now.options.configuration.limits (machine_of device.now).buffers (machine_of device.now).flags performed.now.options.format
         performed.now.given.name.now performed.now.given.script.now performed.now.commands.now case.ticket case.refusal (string_bytes text)) }
 {
     let found = reason_at(alloc, device, performed, case)?;

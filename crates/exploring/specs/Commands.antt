@@ -21,7 +21,7 @@ use Rattle.exploring.specs.Lines.{has_shown, told_text}
 
 -- whether a command is a launch
 abbrev pub is_launch : Command → Bool
-is_launch (command.Buffer name size) = false
+is_launch (command.Buffer name size unset) = false
 is_launch (command.Write buffer at bytes) = false
 is_launch (command.Fill buffer at count pattern) = false
 is_launch (command.Copy source at target to count) = false
@@ -64,7 +64,7 @@ IsMannerOf m kernel range false orders how = how ≡ manner.Quiet
 
 -- what is told of a command beside its reply, on a machine
 abbrev pub IsManner : Option ℕ → ℕ → Machine → Command → Manner → Type 0
-IsManner wanted number m (command.Buffer name size) how = how ≡ manner.Quiet
+IsManner wanted number m (command.Buffer name size unset) how = how ≡ manner.Quiet
 IsManner wanted number m (command.Write buffer at bytes) how = how ≡ manner.Quiet
 IsManner wanted number m (command.Fill buffer at count pattern) how = how ≡ manner.Quiet
 IsManner wanted number m (command.Copy source at target to count) how = how ≡ manner.Quiet

@@ -42,6 +42,7 @@ impl Questions<Command, Reply> for Device {
             0 => Command::Buffer {
                 name: buffer,
                 size: 4,
+                unset: false,
             },
             1 => Command::Write {
                 buffer,

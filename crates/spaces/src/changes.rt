@@ -87,7 +87,7 @@ impl Changes {
 impl Table<Bytes> {
     /// Makes changes in the buffer of a name, if there is one.
     #[tactic(auto, using(crate::proofs::Tables::unreplaced))]
-    fn write_changes(&mut self, name: &Name, changes: &Changes)
+    pub(crate) fn write_changes(&mut self, name: &Name, changes: &Changes)
         ensures { self.new ≡ set_value (is name.now) self.old (with_changes (row_in self.old name.now) changes.now) }
     {
         if let Some(buffer) = self.get_mut(name) {

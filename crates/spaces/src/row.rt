@@ -2,6 +2,7 @@
 
 ghost use Rattle.std.specs.Prelude.{◌≡◌, ◌<◌, Some, None, map, length, replicate, false, if◌then◌else◌, slice_get, IfOk};
 ghost use Rattle.clmodel.specs.Cells.{cells_of, is_flagged, held_cells};
+ghost use Rattle.spaces.specs.FlagRows.{bytes_beneath, flags_over};
 ghost use Rattle.spaces.specs.Space.{IsChanged};
 
 use crate::cells::{Cell, fetched, is_inside, put, read, updated_word};
@@ -63,7 +64,9 @@ fn held_by(alloc: Global, bytes: &[u8], flags: &[u8]) -> Result<Vec<Option<u8>>,
 
 /// Bytes and their flags that hold this: an unset byte is 0. An error is out of memory.
 fn contents_of(alloc: Global, cells: &[Option<u8>]) -> Result<Contents, AllocError>
-    ensures { IfOk result (λ contents. held_cells contents.bytes contents.flags ≡ cells.now) }
+    ensures cells { IfOk result (λ contents. held_cells contents.bytes contents.flags ≡ cells.now) }
+    ensures bytes { IfOk result (λ contents. contents.bytes ≡ bytes_beneath cells.now) }
+    ensures flags { IfOk result (λ contents. contents.flags ≡ flags_over cells.now) }
 {
     let mut bytes = Vec::with_capacity(alloc, cells.len())?;
     let mut flags = Vec::with_capacity(alloc, cells.len())?;
@@ -122,7 +125,9 @@ impl Row<Option<u8>> {
 
     /// Its bytes, and a flag for each. An error is out of memory.
     pub fn into_contents(self, alloc: Global) -> Result<Contents, AllocError>
-        ensures { IfOk result (λ contents. held_cells contents.bytes contents.flags ≡ self) }
+        ensures cells { IfOk result (λ contents. held_cells contents.bytes contents.flags ≡ self) }
+        ensures bytes { IfOk result (λ contents. contents.bytes ≡ bytes_beneath self) }
+        ensures flags { IfOk result (λ contents. contents.flags ≡ flags_over self) }
     {
         contents_of(alloc, self.cells.as_slice())
     }

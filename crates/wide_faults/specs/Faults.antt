@@ -119,7 +119,7 @@ IsLaunchAside orders head old setup (reply.Refused why) text = text ≡ []
 -- what is told of the reply to a command
 abbrev pub IsAside : (head : List ℕ) → Machine → Command → Reply → List ℕ → Type 0
 IsAside head old (command.Launch kernel range orders) r text = IsLaunchAside orders head old (setup_of old (kernel_of old kernel) range) r text
-IsAside head old (command.Buffer name size) r text = text ≡ []
+IsAside head old (command.Buffer name size unset) r text = text ≡ []
 IsAside head old (command.Write name at bytes) r text = text ≡ []
 IsAside head old (command.Fill name at count pattern) r text = text ≡ []
 IsAside head old (command.Copy source at target to count) r text = text ≡ []
