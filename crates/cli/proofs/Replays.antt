@@ -16,7 +16,7 @@ use Rattle.byte_io.specs.Sink.{Sink}
 use Rattle.item_step.specs.Launches as launches
 use Rattle.item_step.specs.declared.launch.Launch.{Launch}
 use Rattle.spaces.specs.declared.buffers.Buffers.{Buffers}
-use Rattle.device.proofs.Set.{prepared_on}
+use Rattle.device.proofs.Prepared.{prepared_on}
 use Rattle.cli.specs.Reading.{ReadsScript}
 use Rattle.cli.specs.Replaying.{HadMemory, Leads, Performs, Replays, ReadsFile, Unjudged, Unreplayed, Missed, Refused}
 use Rattle.simfile.specs.declared.faults.RunFault.{RunFault}
@@ -48,7 +48,7 @@ last_taken (y ∷ xs) (z ∷ rest) (suc n) x h e =
 
 -- a prepared launch that was replayed
 pub replays : {m : Machine} {kernel : List ℕ} {range : Range} (launch : Launch) (buffers : Buffers) (f : Fault) (runs : List EventRun) (yes : Bool)
-    → IsPrepared m kernel range launch → buffers.bytes ≡ m.buffers → buffers.flags ≡ []
+    → IsPrepared m kernel range launch → buffers.bytes ≡ m.buffers → buffers.flags ≡ m.flags
     → Decides yes (Reaches (launch_in (launches.setup_of launch) buffers) (events_of runs) f)
     → Replays m kernel range f runs yes
 replays {m} {kernel} {range} launch buffers f runs answer p e set d =

@@ -1,6 +1,6 @@
 pub mod Programs
 mod Merged
-pub mod Set
+pub mod Prepared
 pub mod Runs
 pub mod Written
 pub mod Launches

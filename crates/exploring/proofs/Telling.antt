@@ -21,7 +21,7 @@ use Rattle.simfile.specs.Script.{IsScript}
 use Rattle.simfile.specs.declared.faults.RunFault.{RunFault}
 use Rattle.simfile.specs.declared.faults.RunFault.TheVariants as fault
 use Rattle.spaces.specs.declared.buffers.Buffers.{Buffers}
-use Rattle.device.proofs.Set.{prepared_on}
+use Rattle.device.proofs.Prepared.{prepared_on}
 use Rattle.exploring.specs.Commands.{CommandUntold, IsExplored, IsManner, TellsCommand, TellsEach, behind, first_spot, is_launch, launch_count, next, with_told}
 use Rattle.exploring.specs.Explored.{HasBegun, HasTold, IsExploredScript, IsMissing, IsPart, IsToldOf, Unexplored, Untold, is_among, is_past, least, no_end}
 use Rattle.exploring.specs.Findings.{AreFound}
@@ -179,7 +179,7 @@ unexplored options script commands old new (fault.CommandRefused ticket) is none
 
 -- a launch that isn't refused, and what its orders show on the buffers as they are
 pub explored_there :
-    (m : Machine) (kernel : List ℕ) (range : Range) (launch : Launch) (buffers : Buffers) (findings : Findings) → IsPrepared m kernel range launch → buffers.bytes ≡ m.buffers → buffers.flags ≡ []
+    (m : Machine) (kernel : List ℕ) (range : Range) (launch : Launch) (buffers : Buffers) (findings : Findings) → IsPrepared m kernel range launch → buffers.bytes ≡ m.buffers → buffers.flags ≡ m.flags
     → AreFound (launch_in (launches.setup_of launch) buffers) findings → IsExplored m kernel range (manner.Explored findings)
 explored_there m kernel range launch buffers findings prepared same set found =
     (prepared.admitted, subst (λ (l : model.Launch). AreFound l findings) (prepared_on m kernel range launch buffers prepared same set) found)

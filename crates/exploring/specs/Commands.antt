@@ -2,9 +2,8 @@
 use Rattle.std.specs.Prelude.{◌≡◌, ◌+◌, ◌||◌, ℕ, Bool, true, false, Option, None, Some, List, [], ◌∷◌, ◌++◌, nat_eq, if◌then◌else◌}
 use Rattle.std.specs.List.{count_by}
 use Rattle.byte_io.specs.Sink.{Sink, Stopped}
-use Rattle.clmodel.specs.Next.{launch_of}
 use Rattle.clmodel.specs.declared.setup.Range.{Range}
-use Rattle.device.specs.Machine.{Machine, Step, bytes_of, first, kernel_of, launch_row, setup_of}
+use Rattle.device.specs.Machine.{Machine, Step, first, kernel_of, launch_at, launch_row, setup_of}
 use Rattle.host_commands.specs.declared.command.Command.{Command}
 use Rattle.host_commands.specs.declared.command.Command.TheVariants as command
 use Rattle.host_commands.specs.declared.command.Refusal.{Refusal}
@@ -54,7 +53,7 @@ is_wanted (Some wanted) number = nat_eq wanted number
 abbrev pub IsExplored : Machine → List ℕ → Range → Manner → Type 0
 IsExplored m kernel range manner.Quiet = (refusal : Refusal) × (first (launch_row m kernel range) ≡ Some refusal)
 IsExplored m kernel range manner.Unordered = ⊥
-IsExplored m kernel range (manner.Explored findings) = (first (launch_row m kernel range) ≡ None) × AreFound (launch_of (setup_of m (kernel_of m kernel) range) (bytes_of m)) findings
+IsExplored m kernel range (manner.Explored findings) = (first (launch_row m kernel range) ≡ None) × AreFound (launch_at m (setup_of m (kernel_of m kernel) range)) findings
 
 -- what is told of a launch beside its reply, by whether it is wanted and has `orders`
 abbrev pub IsMannerOf : Machine → List ℕ → Range → (wanted orders : Bool) → Manner → Type 0

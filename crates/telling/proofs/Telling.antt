@@ -20,7 +20,7 @@ use Rattle.host_commands.specs.declared.command.Refusal.TheVariants as refusal
 use Rattle.item_step.specs.Launches as launches
 use Rattle.item_step.specs.declared.launch.Launch.{Launch}
 use Rattle.spaces.specs.declared.buffers.Buffers.{Buffers}
-use Rattle.device.proofs.Set.{prepared_on}
+use Rattle.device.proofs.Prepared.{prepared_on}
 use Rattle.telling.specs.Judged.{LeadsThere, Refuses, Tells}
 use Rattle.telling.specs.declared.told.ExplainedCase.{ExplainedCase}
 
@@ -48,7 +48,7 @@ decided_not answer not d p = false≢true (sym not ∙ d.1 p)
 -- a prepared launch whose explanation was found exactly if its schedule leads to the fault
 pub tells :
     (m : Machine) (commands : List Command) (ticket : ℕ) (kernel : List ℕ) (range : Range) (orders : Bool) (launch : Launch) (buffers : Buffers) (f : Fault) (runs : List EventRun) (found : Option ExplainedCase)
-    → slice_get commands ticket ≡ Some (command.Launch kernel range orders) → IsPrepared m kernel range launch → buffers.bytes ≡ m.buffers → buffers.flags ≡ []
+    → slice_get commands ticket ≡ Some (command.Launch kernel range orders) → IsPrepared m kernel range launch → buffers.bytes ≡ m.buffers → buffers.flags ≡ m.flags
     → IfNone found (Reaches (launch_in (launches.setup_of launch) buffers) (events_of runs) f → ⊥)
     → IfSome found (λ _. Reaches (launch_in (launches.setup_of launch) buffers) (events_of runs) f) → Tells m commands ticket f runs (is_some found)
 tells m commands ticket kernel range orders launch buffers f runs found at p e set none some = record {
@@ -72,7 +72,7 @@ tells m commands ticket kernel range orders launch buffers f runs found at p e s
 -- a schedule that leads there leads the launch that was prepared
 pub leads_prepared :
     (m : Machine) (commands : List Command) (ticket : ℕ) (kernel : List ℕ) (range : Range) (orders : Bool) (launch : Launch) (buffers : Buffers) (f : Fault) (runs : List EventRun)
-    → slice_get commands ticket ≡ Some (command.Launch kernel range orders) → IsPrepared m kernel range launch → buffers.bytes ≡ m.buffers → buffers.flags ≡ [] → LeadsThere m commands ticket f runs
+    → slice_get commands ticket ≡ Some (command.Launch kernel range orders) → IsPrepared m kernel range launch → buffers.bytes ≡ m.buffers → buffers.flags ≡ m.flags → LeadsThere m commands ticket f runs
     → Reaches (launch_in (launches.setup_of launch) buffers) (events_of runs) f
 leads_prepared m commands ticket kernel range orders launch buffers f runs at p e set leads =
     subst (λ (l : model.Launch). Reaches l (events_of runs) f) (sym (prepared_on m kernel range launch buffers p e set)) (leads kernel range orders at)

@@ -5,7 +5,6 @@ use Rattle.std.specs.Option.{IfSome}
 use Rattle.std.specs.Str.Lossy.{utf8_lossy}
 use Rattle.clmodel.specs.Launch.{Launch}
 use Rattle.clmodel.specs.Law.{Reaches}
-use Rattle.clmodel.specs.Next.{launch_of}
 use Rattle.launches.specs.Groups.{launch_in}
 use Rattle.clmodel.specs.Outcome.{events_of}
 use Rattle.clmodel.specs.Setup.{Setup, group_items}
@@ -13,9 +12,9 @@ use Rattle.clmodel.specs.declared.fault.Fault.{Fault}
 use Rattle.clmodel.specs.declared.schedule.EventRun.{EventRun}
 use Rattle.clmodel.specs.declared.setup.Range.{Range}
 use Rattle.device.specs.Kept.{IsCodeOf}
-use Rattle.device.specs.Machine.{Machine, bytes_of, kernel_of, setup_of}
+use Rattle.device.specs.Machine.{Machine, kernel_of, launch_at, setup_of}
 use Rattle.device.specs.Prepared.{IsPrepared}
-use Rattle.device.proofs.Set.{prepared_on}
+use Rattle.device.proofs.Prepared.{prepared_on}
 use Rattle.explain_items.specs.Named.{AreToldInside, told_items}
 use Rattle.explain_items.specs.declared.context.Context.{Context}
 use Rattle.explanation.specs.declared.steps.ScheduleFacts.{ScheduleFacts}
@@ -64,7 +63,7 @@ explained e options name launch contents context ticket place range orders f run
 -- what is told of a prepared launch
 pub whole :
     (m : Machine) (options : TellOptions) (name script : List ℕ) (commands : List Command) (done : List Bool) (ticket : ℕ) (place : CommandPlace) (kernel : List ℕ) (range : Range) (orders : Bool) (context : Context) (buffers : Buffers) (f : Fault) (given runs : List EventRun) (e : Explanation)
-    → slice_get commands ticket ≡ Some (command.Launch kernel range orders) → IsPrepared m kernel range context.launch.now → buffers.bytes ≡ m.buffers → buffers.flags ≡ [] → IsSourceOf script commands done kernel context.program → StandsAt script commands ticket place
+    → slice_get commands ticket ≡ Some (command.Launch kernel range orders) → IsPrepared m kernel range context.launch.now → buffers.bytes ≡ m.buffers → buffers.flags ≡ m.flags → IsSourceOf script commands done kernel context.program → StandsAt script commands ticket place
     → IsShort (launch_in (launches.setup_of context.launch.now) buffers) f given runs → IsAsWanted options.as_given given runs → string_bytes e.schedule.given ≡ schedule_words given
     → IsExplained options name (launch_in (launches.setup_of context.launch.now) buffers) (bytes_in buffers) context ticket place range orders f runs e → context.kernel.now ≡ kernel
     → HasWhole m options name script commands done ticket f given runs e
@@ -85,7 +84,7 @@ whole m options name script commands done ticket place kernel range orders conte
   place = place;
   stands = stands;
   explained =
-      subst (λ (b : Table (List ℕ)). IsExplained options name (launch_of (setup_of m (kernel_of m kernel) range) (bytes_of m)) (row_in b) context ticket place range orders f runs e) same
+      subst (λ (b : Table (List ℕ)). IsExplained options name (launch_at m (setup_of m (kernel_of m kernel) range)) (row_in b) context ticket place range orders f runs e) same
       (subst (λ (l : Launch). IsExplained options name l (bytes_in buffers) context ticket place range orders f runs e) (prepared_on m kernel range context.launch.now buffers p same set) explained);
   schedule = words;
 }
