@@ -48,9 +48,9 @@ abbrev pub shown_text : Spot → Option ShownFault → List ℕ
 shown_text spot None = []
 shown_text spot (Some shown) = launch_words spot.number ++ fault_words spot.ticket shown
 
--- a byte, or that there is none
+-- a byte, or that it is unset (C99 6.7.8)
 abbrev pub byte_text : Option ℕ → List ℕ
-byte_text None = codes "none"
+byte_text None = codes "unset"
 byte_text (Some byte) = decimal byte
 
 -- the byte of a place

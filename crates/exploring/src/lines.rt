@@ -146,13 +146,13 @@ fn byte_at(buffers: &[BufferMem], place: Place) -> Option<u8>
     }
 }
 
-/// Writes a byte, or that there is none.
+/// Writes a byte, or that it is unset.
 fn write_byte<W: Write>(byte: Option<u8>, writer: &mut W) -> Result<(), WriteFailed>
     ensures { Puts (W.sink writer.old) result (W.sink writer.new) (byte_text byte) }
 {
     match byte {
         Some(byte) => write_number(u64::from(byte), writer),
-        None => writer.write(b"none"),
+        None => writer.write(b"unset"),
     }
 }
 
