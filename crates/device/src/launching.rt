@@ -97,16 +97,12 @@ impl Device {
         let Launched { names, end } = launched;
         match end {
             RunEnd::Clean(changes, cleared) => {
-                self.buffers.put_all_changes(
-                    names.as_slice(),
-                    changes.as_slice(),
-                    cleared.as_slice(),
-                );
+                self.buffers
+                    .put_all_changes(names.as_slice(), changes.as_slice(), cleared.as_slice());
                 Reply::Clean
             }
             RunEnd::Ordered(contents) => {
-                self.buffers
-                    .put_all_contents(names.as_slice(), contents);
+                self.buffers.put_all_contents(names.as_slice(), contents);
                 Reply::Ordered
             }
             RunEnd::Faulted(fault, schedule) => Reply::Fault { fault, schedule },

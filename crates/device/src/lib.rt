@@ -155,8 +155,7 @@ impl Device {
         if self.buffers.bytes.len() >= self.configuration.limits.buffers {
             return Err(Refusal::TooManyBuffers);
         }
-        self.buffers
-            .make(self.alloc, name, size as usize, unset)?;
+        self.buffers.make(self.alloc, name, size as usize, unset)?;
         Ok(Reply::Done)
     }
 
@@ -175,8 +174,7 @@ impl Device {
         if bytes.len() > buffer.len() || offset > (buffer.len() - bytes.len()) as u64 {
             return Err(Refusal::OutOfRange);
         }
-        self.buffers
-            .write(name, offset as usize, bytes.as_slice());
+        self.buffers.write(name, offset as usize, bytes.as_slice());
         Ok(Reply::Done)
     }
 

@@ -450,7 +450,9 @@ fn reason_value(alloc: Global, reason: &RefusalReason, text: &str) -> Result<Val
             count,
             bytes,
         } => outside_value(alloc, *bytes, *count, name, *offset, text),
-        RefusalReason::ByteUnset { name, byte, made } => unset_value(alloc, *byte, made, name, text),
+        RefusalReason::ByteUnset { name, byte, made } => unset_value(
+            alloc, *byte, made, name, text,
+        ),
         RefusalReason::Overlapping {
             name,
             offset,

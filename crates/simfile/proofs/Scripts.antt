@@ -203,9 +203,14 @@ keeps_more lines rest (c ∷ cs) h = (h.0, h.1, h.2, keeps_text version.Two vers
 pub adds : Adds
 adds lines rest [] none h = h
 adds lines rest (c ∷ cs) none h =
-    let both = and_true (is_older c) (list_all is_older cs) none in
-    (h.0, h.1, h.2, keeps_text version.Three version.Two h.0 c (λ kernel range orders is. words_left range.uniform orders (sym (ap is_older is) ∙ both.0))
-    (λ name size unset is. unset_left unset (sym (ap is_older is) ∙ both.0)) h.3, adds h.1 rest cs both.1 h.4)
+    let both = and_true (is_older c) (list_all is_older cs) none in (
+      h.0,
+      h.1,
+      h.2,
+      keeps_text version.Three version.Two h.0 c (λ kernel range orders is. words_left range.uniform orders (sym (ap is_older is) ∙ both.0))
+          (λ name size unset is. unset_left unset (sym (ap is_older is) ∙ both.0)) h.3,
+      adds h.1 rest cs both.1 h.4,
+    )
 
 pub not_both : NotBoth
 not_both bytes cs n h bad =

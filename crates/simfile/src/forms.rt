@@ -8,8 +8,8 @@ ghost use Rattle.simfile.specs.Views.{argument_of, command_of};
 
 use crate::fields::{hex_before, lines_at, list_at, list_before, name_at, name_before};
 use crate::lines::{
-    ArgLine, BufferLine, CopyLine, FillLine, KernelLine, LaunchLine, Line, ReadLine, Setting, Version,
-    WriteLine,
+    ArgLine, BufferLine, CopyLine, FillLine, KernelLine, LaunchLine, Line, ReadLine, Setting,
+    Version, WriteLine,
 };
 use text_lines::{after, number_at, number_before, value_at};
 

@@ -144,8 +144,7 @@ impl Buffers {
         let row = Bytes::copy_of(alloc, &self.flags_in(source)[offset..offset + count])?;
         let size = self.bytes_in(target).len();
         self.flags.make_row(alloc, target, size, row.as_slice())?;
-        self.flags
-            .put_flags(target, target_offset, row.as_slice());
+        self.flags.put_flags(target, target_offset, row.as_slice());
         Ok(())
     }
 
