@@ -33,7 +33,7 @@ fn unset_at(version: Version, bytes: &[u8]) -> (bool, &[u8])
     ensures { Some (result.0, result.1.now) ≡ unset_at version bytes.now }
 {
     match version {
-        Version::One | Version::Two => (false, bytes),
+        Version::Two | Version::One => (false, bytes),
         Version::Three => word_at(b" unset", bytes),
     }
 }

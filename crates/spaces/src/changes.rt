@@ -4,7 +4,7 @@ ghost use Rattle.std.specs.Prelude.{◌≡◌, ◌+◌, ◌*◌, ◌<◌, ◌≤
 ghost use Rattle.std.specs.Map.{set_value};
 ghost use Rattle.clmodel.specs.Cells.{byte_count, cells_of, number, written};
 ghost use Rattle.spaces.specs.Buffers.{row_in};
-ghost use Rattle.spaces.specs.Changes.{with_changes, table_with_changes};
+ghost use Rattle.spaces.specs.Changes.{with_changes};
 ghost use Rattle.spaces.specs.Tables.{is};
 
 use crate::cells::is_inside;
@@ -92,17 +92,6 @@ impl Table<Bytes> {
     {
         if let Some(buffer) = self.get_mut(name) {
             changes.write_into(buffer);
-        }
-    }
-
-    /// Makes changes in the buffers with these names, one after another, as far as there are both (OpenCL 1.2, section
-    /// 5.2.1). It takes no memory, and time in proportion to what is changed.
-    pub fn write_all_changes(&mut self, names: &[Name], changes: &[Changes])
-        ensures { self.new ≡ table_with_changes self.old names.now changes.now }
-    {
-        let count = names.len().min(changes.len());
-        for place in 0..count {
-            self.write_changes(&names[place], &changes[place]);
         }
     }
 }
