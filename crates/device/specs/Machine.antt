@@ -1,5 +1,5 @@
 -- The machine: what each command answers and leaves.
-use Rattle.std.specs.Prelude.{◌≡◌, ℕ, ◌+◌, ◌==◌, ◌⊎◌, Bool, true, false, not, ◌&&◌, ◌||◌, nat_le, nat_lt, if◌then◌else◌, IsTrue, List, [], ◌∷◌, ◌++◌, length, map, take, drop, replicate, slice_get, Option, None, Some, is_some, Result, Ok, Err}
+use Rattle.std.specs.Prelude.{◌≡◌, ℕ, ◌+◌, ◌-◌, ◌==◌, ◌⊎◌, Bool, true, false, not, ◌&&◌, ◌||◌, nat_le, nat_lt, if◌then◌else◌, IsTrue, List, [], ◌∷◌, ◌++◌, length, map, take, drop, replicate, slice_get, Option, None, Some, is_some, Result, Ok, Err}
 use Rattle.std.specs.List.{list_any, sum_by}
 use Rattle.std.specs.Map.{remove_entry, set_value, values_of}
 use Rattle.std.specs.Option.{option_map_or, unwrap_or, MatchOption}
@@ -17,7 +17,7 @@ use Rattle.clmodel.specs.declared.setup.Argument.TheVariants as argument
 use Rattle.clmodel.specs.declared.setup.Range.{Range}
 use Rattle.spaces.specs.Buffers.{row_in, with_bytes, repeated}
 use Rattle.spaces.specs.FlagRows.{bytes_beneath, flags_over, with_all_flags, with_copied, with_set, with_unset}
-use Rattle.spaces.specs.Parts.{lowest_marked}
+use Rattle.spaces.specs.Parts.{lowest_marked, marked_run}
 use Rattle.host_commands.specs.Builds.{Builds}
 use Rattle.host_commands.specs.Fills.{is_bad_fill}
 use Rattle.host_commands.specs.Kernels.{KernelState, names_buffer, parameters_of, with_argument, new_kernel, no_kernel, suits}
@@ -72,6 +72,10 @@ is_unset m name = is_flagged (row_in m.flags name)
 -- the lowest of n bytes of a buffer from an offset on that is unset
 abbrev pub lowest_unset : Machine → List ℕ → ℕ → ℕ → Option ℕ
 lowest_unset m name at count = lowest_marked (is_unset m name) at count
+
+-- how many of these bytes are unset from the lowest on that is, one behind another
+abbrev pub unset_run : Machine → List ℕ → ℕ → ℕ → ℕ
+unset_run m name at count = let first = unwrap_or (lowest_unset m name at count) 0 in marked_run (is_unset m name) first (at + count - first)
 
 abbrev pub no_program : Program
 no_program = record { functions = NoFunc; names = [] }
@@ -166,7 +170,7 @@ row m (command.Read name at count) =
     (not (is_some (find m.buffers name)), NoSuchName)
     ∷ (count == 0, BadSize)
     ∷ (nat_lt (length (bytes_of m name)) (at + count), OutOfRange)
-    ∷ (is_some (lowest_unset m name at count), UnsetBytes (unwrap_or (lowest_unset m name at count) 0))
+    ∷ (is_some (lowest_unset m name at count), UnsetBytes (unwrap_or (lowest_unset m name at count) 0) (unset_run m name at count))
     ∷ []
 row m (command.Release name) = (not (is_used m name), NoSuchName) ∷ (is_in_use m name, InUse) ∷ []
 row m (command.Program name source) = (is_used m name, NameInUse) ∷ []

@@ -257,7 +257,8 @@ impl Device {
             return Err(Refusal::OutOfRange);
         }
         if let Some(byte) = self.buffers.lowest_unset(name, offset, count) {
-            return Err(Refusal::UnsetBytes(byte));
+            let count = self.buffers.unset_run(name, byte, offset + count - byte);
+            return Err(Refusal::UnsetBytes { byte, count });
         }
         let found = &buffer.as_slice()[offset as usize..(offset + count) as usize];
         Ok(Reply::Data(Bytes::copy_of(self.alloc, found)?))

@@ -191,7 +191,7 @@ pub(crate) fn read_reason(
     ensures { IfOk result (HoldsOf refusing.now (command.Read buffer.now offset count)) }
 {
     match refusal {
-        Refusal::UnsetBytes(_) => unset_byte(refusing, buffer, offset, count),
+        Refusal::UnsetBytes { .. } => unset_byte(refusing, buffer, offset, count),
         _ => range_reason(refusing, buffer, offset, count, refusal),
     }
 }

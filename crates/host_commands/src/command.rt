@@ -124,8 +124,9 @@ pub enum Refusal {
     InUse,
     /// 16: memory was refused
     OutOfMemory,
-    /// 17: a byte that is to be read is unset: the lowest one, counted from the buffer's first
-    UnsetBytes(u64),
+    /// 17: a byte that is to be read is unset: the lowest one, counted from the buffer's first, and how many bytes that
+    /// are to be read are unset from there on, one behind another
+    UnsetBytes { byte: u64, count: u64 },
 }
 
 impl From<AllocError> for Refusal {

@@ -16,6 +16,11 @@ abbrev pub lowest_marked : (ℕ → Bool) → ℕ → ℕ → Option ℕ
 lowest_marked unset first zero = None
 lowest_marked unset first (suc count) = if unset first then Some first else lowest_marked unset (suc first) count
 
+-- how many of n bytes are unset from the first on, one behind another (own)
+abbrev pub marked_run : (ℕ → Bool) → ℕ → ℕ → ℕ
+marked_run unset first zero = 0
+marked_run unset first (suc count) = if unset first then suc (marked_run unset (suc first) count) else 0
+
 -- a lent buffer, its row of flags, and what is seen of it (5.2.1)
 pub record Parted : Type 0 where
   pub base : List ℕ

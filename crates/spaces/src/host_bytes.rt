@@ -6,7 +6,7 @@ ghost use Rattle.std.specs.Map.{remove_entry, set_value};
 ghost use Rattle.clmodel.specs.Cells.{is_flagged};
 ghost use Rattle.spaces.specs.Buffers.{row_in, is_unset_in, with_bytes, repeated};
 ghost use Rattle.spaces.specs.FlagRows.{AreFit, with_set, with_copied, with_unset};
-ghost use Rattle.spaces.specs.Parts.{lowest_marked};
+ghost use Rattle.spaces.specs.Parts.{lowest_marked, marked_run};
 ghost use Rattle.spaces.specs.Tables.{find, is};
 
 use crate::buffers::Buffers;
@@ -175,6 +175,20 @@ impl Buffers {
             }
         }
         None
+    }
+
+    /// How many of n bytes of the buffer of a name are unset from the first on, one behind another.
+    pub fn unset_run(&self, name: &Name, first: u64, count: u64) -> u64
+        requires { first + count < 2 ^ 64 }
+        ensures { result ≡ marked_run (is_unset_in self.now name.now) first count }
+    {
+        let flags = self.flags_in(name);
+        for byte in first..first + count {
+            if !is_flagged(flags, byte) {
+                return byte - first;
+            }
+        }
+        count
     }
 }
 

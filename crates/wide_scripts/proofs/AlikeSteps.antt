@@ -30,7 +30,7 @@ use Rattle.host_commands.specs.declared.command.Refusal.{Refusal}
 use Rattle.host_commands.specs.declared.command.Refusal.TheVariants.{NameInUse, NoSuchName, BadSize, OutOfRange, TooManyBuffers, Overlap, NoSuchKernel, BadArgument, InUse, UnsetBytes}
 use Rattle.host_commands.specs.declared.command.Reply.{Reply}
 use Rattle.host_commands.specs.declared.command.Reply.TheVariants as reply
-use Rattle.device.specs.Machine.{Machine, Answers, Built, Does, IsOrderedReport, IsReported, Launches, LaunchesOrdered, OrderedWith, bytes_of, do_overlap, fits, first, holding, is_unset, has_kernel, has_kernels, is_argument, is_there, is_used, kernel_of, launch_at, lowest_unset, program_of, row, setup_of}
+use Rattle.device.specs.Machine.{Machine, Answers, Built, Does, IsOrderedReport, IsReported, Launches, LaunchesOrdered, OrderedWith, bytes_of, do_overlap, fits, first, holding, is_unset, has_kernel, has_kernels, is_argument, is_there, is_used, kernel_of, launch_at, lowest_unset, program_of, row, setup_of, unset_run}
 use Rattle.same_launches.specs.Verdicts.{AlikeBytes}
 use Rattle.widening.specs.Widened.{ArgumentsDiffer, DifferBy, is_free_at, with_arguments}
 use Rattle.wide_launches.specs.Replies.{IsWideReply, SameReply}
@@ -307,7 +307,7 @@ module _ (taint after : Taint) (free differs : Bool) (m : Machine) (buffers : Ta
   read_step name at count r new n noted includes read =
       answered_more more (command.Read name at count) (command.Read name at count) r new
       (ap₂ (λ b k. first ((not b, NoSuchName) ∷ (count == 0, BadSize) ∷ (nat_lt k (at + count), OutOfRange)
-      ∷ (is_some (lowest_unset m name at count), UnsetBytes (unwrap_or (lowest_unset m name at count) 0)) ∷ [])) (there name) (long name))
+      ∷ (is_some (lowest_unset m name at count), UnsetBytes (unwrap_or (lowest_unset m name at count) 0) (unset_run m name at count)) ∷ [])) (there name) (long name))
       (λ did. ∣ record {
         reply = reply.Data (take count (drop at (row_in buffers name)));
         left = buffers;
