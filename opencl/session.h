@@ -21,8 +21,8 @@ void session_record(session *s, bool on);
 // Whether a launch of it may have the word `orders`. A device is asked for that only where it may be wanted.
 bool session_has_orders(const session *s);
 
-// Whether a buffer of it may be made `unset`, so that nobody has set its bytes. A device is asked for that only where it
-// is wanted.
+// Whether a buffer of it may be made `unset`, so that nobody has set its bytes. A device is asked for that only where
+// it is wanted.
 bool session_has_unset(const session *s);
 
 // What becomes of a launch whose result depends on the order of its items (CLSIM_ORDERS).

@@ -115,8 +115,8 @@ static bool maps_for(cl_map_flags flags) {
 }
 // A region that is mapped for reading alone is told; one that is mapped for writing isn't.
 static bool maps(void) {
-    return maps_for(CL_MAP_WRITE) && maps_for(CL_MAP_READ | CL_MAP_WRITE) &&
-           maps_for(CL_MAP_WRITE_INVALIDATE_REGION) && maps_for(CL_MAP_READ);
+    return maps_for(CL_MAP_WRITE) && maps_for(CL_MAP_READ | CL_MAP_WRITE) && maps_for(CL_MAP_WRITE_INVALIDATE_REGION) &&
+           maps_for(CL_MAP_READ);
 }
 
 // A sub-buffer has the unset bytes of its buffer.
@@ -140,7 +140,8 @@ int main(int count, char **words) {
     static const struct {
         const char *name;
         bool (*is_right)(void);
-    } cases[] = {{"loads", loads}, {"sets", sets}, {"reads", reads}, {"given", given}, {"maps", maps}, {"parts", parts}};
+    } cases[] = {{"loads", loads}, {"sets", sets}, {"reads", reads},
+                 {"given", given}, {"maps", maps}, {"parts", parts}};
     for (size_t i = 0; count == 2 && i < sizeof cases / sizeof *cases; i++) {
         if (strcmp(cases[i].name, words[1])) continue;
         h = open_host();

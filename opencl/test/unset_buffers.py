@@ -48,8 +48,10 @@ def unset(bench, name, explains):
     want(len(re.findall("^fault 5 unset: work-item 2 reads what nobody has set, in kernel copies$", "\n".join(lines),
                         re.M)) == (name in FAULTS), told)
     if name in FAULTS:
-        want(f"buffer b_: call {FAULTS[name]} of clCreateBuffer made it, with 256 bytes and none of the host" in lines, told)
-        want(any(line.startswith("reply: fault 5 unset item 2 load buffer b_ byte 8 schedule ") for line in lines), told)
+        made = f"buffer b_: call {FAULTS[name]} of clCreateBuffer made it, with 256 bytes and none of the host"
+        want(made in lines, told)
+        reply = "reply: fault 5 unset item 2 load buffer b_ byte 8 schedule "
+        want(any(line.startswith(reply) for line in lines), told)
         want(not explains or any("no command and no launch before this one" in line for line in lines), told)
     with open(script, encoding="ascii") as file:
         want(file.readline() == "clsim 3\n", "the script is of another version")
