@@ -8,3 +8,4 @@ pub mod Parts
 pub mod Fills
 pub mod Performed
 pub mod Changed
+pub mod FlagRows

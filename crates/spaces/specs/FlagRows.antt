@@ -1,6 +1,6 @@
 -- The flags of buffers some of whose bytes are unset (OpenCL 1.2, 5.2.1, 5.2.2, 5.2.3; C99 6.7.8: indeterminate; own in
 -- the flags).
-use Rattle.std.specs.Prelude.{◌≡◌, ℕ, ◌==◌, Bool, true, not, ◌||◌, if◌then◌else◌, List, [], ◌∷◌, ◌++◌, length, map, take, drop, replicate, Option, is_some}
+use Rattle.std.specs.Prelude.{◌≡◌, ℕ, ◌==◌, Bool, true, not, ◌||◌, if◌then◌else◌, List, [], ◌∷◌, ◌++◌, length, map, take, drop, replicate, Option, None, is_some, ⊤}
 use Rattle.std.specs.List.{list_any}
 use Rattle.std.specs.Map.{remove_entry, set_value}
 use Rattle.std.specs.Option.{unwrap_or, MatchOption}
@@ -9,9 +9,15 @@ use Rattle.spaces.specs.Buffers.{row_in, with_bytes}
 use Rattle.spaces.specs.Changes.{Changed, with_changes}
 use Rattle.spaces.specs.Tables.{Table, is, find}
 
--- each row of flags is that of a buffer, and as long as it (own)
-abbrev pub AreFit : Table (List ℕ) → Table (List ℕ) → Type 0
-AreFit bytes flags = (name : List ℕ) → is_some (find flags name) ≡ true → (is_some (find bytes name) ≡ true) × (length (row_in flags name) ≡ length (row_in bytes name))
+-- no name has two rows (own)
+abbrev pub AreOnce : {A : Type 0} → Table A → Type 0
+AreOnce [] = ⊤
+AreOnce (e ∷ es) = (find es e.0 ≡ None) × AreOnce es
+
+-- each row of flags is that of a buffer, and as long as it, and no buffer has two (own)
+pub record AreFit (bytes flags : Table (List ℕ)) : Type 0 where
+  pub once : AreOnce flags
+  pub rows : (name : List ℕ) → is_some (find flags name) ≡ true → (is_some (find bytes name) ≡ true) × (length (row_in flags name) ≡ length (row_in bytes name))
 
 -- one of these flags is that of an unset byte
 abbrev pub has_unset : List ℕ → Bool

@@ -5,6 +5,7 @@ ghost use Rattle.std.specs.Prelude.{◌≡◌, ◌<◌, ◌≤◌, ◌+◌, ◌%
 ghost use Rattle.std.specs.Map.{set_value};
 ghost use Rattle.spaces.specs.Tables.{is};
 ghost use Rattle.spaces.specs.Buffers.{row_in, bytes_in, flags_in, with_bytes, repeated};
+ghost use Rattle.spaces.specs.FlagRows.{AreFit};
 
 use crate::table::Table;
 use clmodel::text::{Bytes, Name};
@@ -23,6 +24,7 @@ impl Buffers {
     pub fn new(alloc: Global) -> Self
         ensures bytes { result.bytes ≡ [] }
         ensures flags { result.flags ≡ [] }
+        ensures fit { AreFit result.bytes result.flags }
     {
         Buffers {
             bytes: Table::new(alloc),
