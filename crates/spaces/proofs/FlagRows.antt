@@ -1,16 +1,19 @@
 -- Rows of flags beside the buffers that they are of.
-use Rattle.std.proofs.Common.{◌≡◌, ℕ, zero, suc, ◌+◌, ◌≤◌, ◌%◌, ◌==◌, Bool, true, false, not, cond, ◌||◌, if◌then◌else◌, List, [], ◌∷◌, ◌++◌, Option, None, Some, is_some, length, map, take, drop, replicate, refl, sym, ap, ap₂, subst, ◌∙◌, arith, length-append, length-take, length-drop}
+use Rattle.std.proofs.Common.{◌≡◌, ℕ, zero, suc, ◌+◌, ◌-◌, ◌<◌, ◌≤◌, ◌%◌, ◌⊎◌, inl, inr, Bool, true, false, not, cond, ◌||◌, if◌then◌else◌, List, [], ◌∷◌, ◌++◌, Option, None, Some, is_some, length, map, take, drop, replicate, refl, sym, ap, ap₂, subst, ◌∙◌, arith, length-append, length-take, length-drop}
 use Rattle.std.specs.List.{list_any, range_with_len}
 use Rattle.std.specs.Map.{remove_entry, set_value}
 use Rattle.std.specs.Option.{unwrap_or}
 use Rattle.std.specs.Prelude.{get_or}
 use Rattle.std.proofs.lemmas.Bool.{true≢false}
-use Rattle.std.proofs.lemmas.List.{length-map}
-use Rattle.clmodel.specs.Cells.{held_cells, is_flagged}
+use Rattle.std.proofs.lemmas.List.{length-map, drop_all, drop_more}
+use Rattle.clmodel.specs.Cells.{held_cells, is_flagged, masked}
 use Rattle.clmodel.proofs.Steps.{none_some}
 use Rattle.spaces.proofs.Parts.{masked_many}
+use Rattle.spaces.proofs.Tables.{unreplaced}
 use Rattle.spaces.specs.Buffers.{row_in, with_bytes, repeated}
-use Rattle.spaces.specs.FlagRows.{AreOnce, AreFit, has_unset, tidied, with_flags, with_set, with_row, with_copied, with_unset, bytes_beneath, flags_over}
+use Rattle.spaces.specs.FlagRows.{AreOnce, AreFit, has_unset, tidied, with_flags, with_set, both_with_changes, bytes_beneath, flags_over}
+use Rattle.spaces.specs.Changes.{Changed, with_changes}
+use Rattle.spaces.specs.Parts.{lowest_marked, marked_run}
 use Rattle.spaces.specs.Tables.{Table, is, find}
 use lib.Pointwise.{bytes_decides}
 
@@ -172,10 +175,11 @@ fit_bytes bytes flags name row fit long =
       once = fit.once;
       rows = λ other h.
           let old = fit.rows other h in
-          let found = found_put bytes name other row in
-          (ap is_some found ∙ there_put (is name other) row (find bytes other) ∙ old.0,
-          old.1 ∙ sym (ap long_of found ∙ long_put (is name other) row (find bytes other)
-          (λ p. let same = same_name name other p in long (ap (λ n. is_some (find bytes n)) same ∙ old.0) ∙ ap (λ n. length (row_in bytes n)) same) old.0));
+          let found = found_put bytes name other row in (
+            ap is_some found ∙ there_put (is name other) row (find bytes other) ∙ old.0,
+            old.1 ∙ sym (ap long_of found ∙ long_put (is name other) row (find bytes other)
+                (λ p. let same = same_name name other p in long (ap (λ n. is_some (find bytes n)) same ∙ old.0) ∙ ap (λ n. length (row_in bytes n)) same) old.0),
+          );
     }
 
 -- flags that are put, as many as there are bytes
@@ -187,10 +191,11 @@ fit_flags bytes flags name row fit long =
       rows = λ other h.
           let found = found_put flags name other row in
           let there : is_some (find flags other) ≡ true = sym (ap is_some found ∙ there_put (is name other) row (find flags other)) ∙ h in
-          let old = fit.rows other there in
-          (old.0,
-          ap long_of found ∙ long_put (is name other) row (find flags other)
-          (λ p. let same = same_name name other p in long (ap (λ n. is_some (find flags n)) same ∙ there) ∙ ap (λ n. length (row_in flags n)) same) there ∙ old.1);
+          let old = fit.rows other there in (
+            old.0,
+            ap long_of found ∙ long_put (is name other) row (find flags other)
+                (λ p. let same = same_name name other p in long (ap (λ n. is_some (find flags n)) same ∙ there) ∙ ap (λ n. length (row_in flags n)) same) there ∙ old.1,
+          );
     }
 
 -- a row that goes
@@ -278,7 +283,7 @@ pub fit_unset : (bytes flags : Table (List ℕ)) (name row marks : List ℕ) →
     → AreFit (bytes ++ (name, row) ∷ []) (flags ++ (name, marks) ∷ [])
 fit_unset bytes flags name row marks fit none long =
     let held : find (bytes ++ (name, row) ∷ []) name ≡ Some row =
-        found_more bytes name name row none ∙ ap (λ z. if z then Some row else find bytes name) ((bytes_decides name name).1 refl) in
+    found_more bytes name name row none ∙ ap (λ z. if z then Some row else find bytes name) ((bytes_decides name name).1 refl) in
     fit_row (bytes ++ (name, row) ∷ []) flags name marks (fit_made bytes flags name row fit none) (no_row bytes flags name fit none) (ap is_some held) (long ∙ sym (ap long_of held))
 
 -- ---- what commands do
@@ -379,3 +384,88 @@ any_more (y ∷ xs) x test = by (test y) (any_more xs x test)
     by : (b : Bool) → list_any test (xs ++ x ∷ []) ≡ (list_any test xs || test x) → (b || list_any test (xs ++ x ∷ [])) ≡ ((b || list_any test xs) || test x)
     by true rest = refl
     by false rest = rest
+
+-- ---- runs of unset bytes
+
+none_at : (flags : List ℕ) (byte : ℕ) → length flags ≡ 0 → is_flagged flags byte ≡ false
+none_at [] byte h = refl
+none_at (flag ∷ flags) byte h = absurd (omega (arith, h))
+
+-- no byte is unset without flags
+pub none_flagged : (flags : List ℕ) (first count : ℕ) → length flags ≡ 0 → lowest_marked (is_flagged flags) first count ≡ None
+none_flagged flags first zero h = refl
+none_flagged flags first (suc count) h =
+    ap (λ b. if b then Some first else lowest_marked (is_flagged flags) (suc first) count) (none_at flags first h) ∙ none_flagged flags (suc first) count h
+
+pub run_none : (unset : ℕ → Bool) (first count : ℕ) → count ≡ 0 → marked_run unset first count ≡ 0
+run_none unset first count e = ap (marked_run unset first) e
+
+pub run_ends : (unset : ℕ → Bool) (first count : ℕ) → unset first ≡ false → marked_run unset first count ≡ 0
+run_ends unset first zero e = refl
+run_ends unset first (suc count) e = ap (λ b. if b then suc (marked_run unset (suc first) count) else 0) e
+
+pub run_on : (unset : ℕ → Bool) (first count : ℕ) → 0 < count → unset first ≡ true → marked_run unset first count ≡ marked_run unset (first + 1) (count - 1) + 1
+run_on unset first zero h e = absurd (omega (arith, h))
+run_on unset first (suc count) h e =
+    ap (λ b. if b then suc (marked_run unset (suc first) count) else 0) e
+    ∙ ap₂ (λ at n. suc (marked_run unset at n)) {x = suc first} {y = first + 1} (omega arith) (omega arith)
+    ∙ ap (λ n. n) {x = suc (marked_run unset (first + 1) (suc count - 1))} {y = marked_run unset (first + 1) (suc count - 1) + 1} (omega arith)
+
+-- ---- changes of both, name by name
+
+no_left : (bytes flags : Table (List ℕ)) (names : List (List ℕ)) (cleared : List Changed) → both_with_changes bytes flags names [] cleared ≡ (bytes, flags)
+no_left bytes flags [] cleared = refl
+no_left bytes flags (name ∷ names) cleared = refl
+
+no_cleared : (bytes flags : Table (List ℕ)) (names : List (List ℕ)) (changes : List Changed) → both_with_changes bytes flags names changes [] ≡ (bytes, flags)
+no_cleared bytes flags [] changes = refl
+no_cleared bytes flags (name ∷ names) [] = refl
+no_cleared bytes flags (name ∷ names) (one ∷ changes) = refl
+
+pub both_done :
+    (bytes flags : Table (List ℕ)) (names : List (List ℕ)) (changes cleared : List Changed) (place : ℕ) → (length names ≤ place) ⊎ ((length changes ≤ place) ⊎ (length cleared ≤ place))
+    → both_with_changes bytes flags (drop place names) (drop place changes) (drop place cleared) ≡ (bytes, flags)
+both_done bytes flags names changes cleared place (inl h) = ap (λ ns. both_with_changes bytes flags ns (drop place changes) (drop place cleared)) (drop_all place names h)
+both_done bytes flags names changes cleared place (inr (inl h)) =
+    ap (λ cs. both_with_changes bytes flags (drop place names) cs (drop place cleared)) (drop_all place changes h) ∙ no_left bytes flags (drop place names) (drop place cleared)
+both_done bytes flags names changes cleared place (inr (inr h)) =
+    ap (both_with_changes bytes flags (drop place names) (drop place changes)) (drop_all place cleared h) ∙ no_cleared bytes flags (drop place names) (drop place changes)
+
+-- bytes and flags with one name's changes
+abbrev pub one_left : List ℕ → List ℕ → Changed → Changed → List (Option ℕ)
+one_left bytes flags one other = held_cells (with_changes bytes one) (with_changes flags other)
+
+abbrev pub bytes_with : Table (List ℕ) → Table (List ℕ) → List ℕ → Changed → Changed → Table (List ℕ)
+bytes_with bytes flags name one other = set_value (is name) bytes (bytes_beneath (one_left (row_in bytes name) (row_in flags name) one other))
+
+abbrev pub flags_with : Table (List ℕ) → Table (List ℕ) → List ℕ → Changed → Changed → Table (List ℕ)
+flags_with bytes flags name one other = tidied (set_value (is name) flags (flags_over (one_left (row_in bytes name) (row_in flags name) one other))) name
+
+pub both_more :
+    (bytes flags : Table (List ℕ)) (names : List (List ℕ)) (changes cleared : List Changed) (place : ℕ) (name : List ℕ) (one other : Changed)
+    → place < length names → place < length changes → place < length cleared → name ≡ get_or names place name → one ≡ get_or changes place one → other ≡ get_or cleared place other
+    → both_with_changes bytes flags (drop place names) (drop place changes) (drop place cleared)
+    ≡ both_with_changes (bytes_with bytes flags name one other) (flags_with bytes flags name one other) (drop (place + 1) names) (drop (place + 1) changes) (drop (place + 1) cleared)
+both_more bytes flags names changes cleared place name one other a b d p q r =
+    ap₂ (λ ns cs. both_with_changes bytes flags ns cs (drop place cleared)) (drop_more names place name a ∙ ap (λ x. x ∷ drop (place + 1) names) (sym p))
+    (drop_more changes place one b ∙ ap (λ x. x ∷ drop (place + 1) changes) (sym q))
+    ∙ ap (both_with_changes bytes flags (name ∷ drop (place + 1) names) (one ∷ drop (place + 1) changes)) (drop_more cleared place other d ∙ ap (λ x. x ∷ drop (place + 1) cleared) (sym r))
+
+-- ---- a buffer without flags
+
+set_from : (unset : ℕ → Bool) (first : ℕ) (bytes : List ℕ) → ((k : ℕ) → unset k ≡ false) → masked unset first (map Some bytes) ≡ map Some bytes
+set_from unset first [] h = refl
+set_from unset first (byte ∷ bytes) h = ap₂ (λ x xs. x ∷ xs) (ap (λ b. if b then None else Some byte) (h first)) (set_from unset (suc first) bytes h)
+
+beneath_some : (bytes : List ℕ) → bytes_beneath (map Some bytes) ≡ bytes
+beneath_some [] = refl
+beneath_some (byte ∷ bytes) = ap (λ xs. byte ∷ xs) (beneath_some bytes)
+
+-- its bytes are those that it has
+pub beneath_set : (bytes flags : List ℕ) → flags ≡ [] → bytes_beneath (held_cells bytes flags) ≡ bytes
+beneath_set bytes flags e = ap bytes_beneath (set_from (is_flagged flags) 0 bytes (λ k. none_at flags k (ap length e))) ∙ beneath_some bytes
+
+-- and no row is made
+pub tidied_none : (flags : Table (List ℕ)) (name row : List ℕ) → find flags name ≡ None → tidied (set_value (is name) flags row) name ≡ flags
+tidied_none flags name row none =
+    ap (λ es. tidied es name) (unreplaced flags name row none) ∙ ap (λ o. if has_unset (unwrap_or o []) then flags else remove_entry (is name) flags) none ∙ unremoved flags name none
