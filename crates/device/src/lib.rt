@@ -159,8 +159,8 @@ impl Device {
         Ok(Reply::Done)
     }
 
-    /// Writes bytes into a buffer from an offset on; they are set then. It is refused where there is no such buffer, without bytes, and
-    /// where they pass the buffer's end.
+    /// Writes bytes into a buffer from an offset on; they are set then. It is refused where there is no such buffer,
+    /// without bytes, and where they pass the buffer's end.
     fn write(&mut self, name: &Name, offset: u64, bytes: &Bytes) -> Result<Reply, Refusal>
         ensures ok { IfOk result (λ reply. Answers (machine_of self.old) (Command.Write name.now offset bytes.now) reply (machine_of self.new)) }
         ensures err { IfErr result (λ refusal. Step (machine_of self.old) (Command.Write name.now offset bytes.now) (Reply.Refused refusal) (machine_of self.new)) }

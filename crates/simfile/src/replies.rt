@@ -164,8 +164,8 @@ fn write_plain<W: Write>(
     }
 }
 
-/// Writes the line of a refusal, with the fault of the source where it doesn't build, and else with the unset bytes that
-/// were to be read.
+/// Writes the line of a refusal, with the fault of the source where it doesn't build, and else with the unset bytes
+/// that were to be read.
 fn write_refused<W: Write>(
     word: &str,
     fault: Option<BuildFault>,

@@ -11,8 +11,8 @@ use crate::table::Table;
 use clmodel::text::{Bytes, Name};
 use std::alloc::{AllocError, Global};
 
-/// The buffers of a device by their names: their bytes (OpenCL 1.2, section 5.2.1), and of those some of whose bytes may
-/// be unset a flag for each byte, which isn't 0 where the byte is unset (C99 6.7.8).
+/// The buffers of a device by their names: their bytes (OpenCL 1.2, section 5.2.1), and of those some of whose bytes
+/// may be unset a flag for each byte, which isn't 0 where the byte is unset (C99 6.7.8).
 #[derive(Drop)]
 pub struct Buffers {
     pub bytes: Table<Bytes>,
