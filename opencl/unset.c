@@ -37,7 +37,7 @@ void tell_maker(cl_kernel k, unsigned number) {
         cl_mem whole = whole_of(m);
         tell("  buffer b%u: call %u of clCreateBuffer made it, with %zu bytes%s", whole->number, whole->made,
              whole->size, whole->is_unset ? " and none of the host" : "");
-        tell("  no command and no launch has given this byte a value (CLSIM_ZERO=1: new buffers are zero)");
+        tell("  no command and no launch has left a value in this byte (CLSIM_ZERO=1: new buffers are zero)");
         return;
     }
 }

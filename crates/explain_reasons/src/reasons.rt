@@ -362,7 +362,7 @@ fn budget_reasons(
     one(context.alloc, Reason::Budget(used))
 }
 
-/// That nothing set a byte of a buffer before the launch.
+/// That nothing has left a value in a byte of a buffer before the launch.
 fn never_set(alloc: Global, buffer: &Name) -> Result<Reason, AllocError>
     ensures { IfOk result (IsNeverSet buffer.now) }
 {

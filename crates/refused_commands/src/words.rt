@@ -197,7 +197,7 @@ fn unset_words(
         Some(made) => {
             let line = made.script_line;
             format!(in alloc;
-                "byte {byte} of buffer {name} is unset: no command and no launch has given it a value since line {line}"
+                "byte {byte} of buffer {name} is unset: no command and no launch has left a value there since line {line}"
             )
         }
         None => format!(in alloc; "byte {byte} of buffer {name} is unset"),
