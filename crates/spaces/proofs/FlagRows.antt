@@ -1,13 +1,16 @@
 -- Rows of flags beside the buffers that they are of.
-use Rattle.std.proofs.Common.{◌≡◌, ℕ, zero, suc, ◌+◌, ◌-◌, ◌<◌, ◌≤◌, ◌%◌, ◌⊎◌, inl, inr, Bool, true, false, not, cond, ◌||◌, if◌then◌else◌, List, [], ◌∷◌, ◌++◌, Option, None, Some, is_some, length, map, take, drop, replicate, refl, sym, ap, ap₂, subst, ◌∙◌, arith, length-append, length-take, length-drop}
+use Rattle.std.proofs.Common.{◌≡◌, ℕ, zero, suc, ◌+◌, ◌-◌, ◌<◌, ◌≤◌, ◌%◌, ◌⊎◌, inl, inr, Bool, true, false, not, cond, ◌||◌, if◌then◌else◌, List, [], ◌∷◌, ◌++◌, Option, None, Some, is_some, length, map, take, drop, replicate, refl, sym, ap, ap₂, subst, ◌∙◌, arith, append-nil, take-append-drop, length-append, length-take, length-drop}
 use Rattle.std.specs.List.{list_any, range_with_len}
 use Rattle.std.specs.Map.{remove_entry, set_value}
 use Rattle.std.specs.Option.{unwrap_or}
-use Rattle.std.specs.Prelude.{get_or}
+use Rattle.std.specs.Prelude.{get_or, slice_index}
 use Rattle.std.proofs.lemmas.Bool.{true≢false}
-use Rattle.std.proofs.lemmas.List.{length-map, drop_all, drop_more}
-use Rattle.clmodel.specs.Cells.{held_cells, is_flagged, masked}
+use Rattle.std.proofs.lemmas.Option.{slice_get-get_or}
+use Rattle.std.proofs.lemmas.List.{length-map, drop_all, drop_more, take_all, take_more}
+use Rattle.clmodel.specs.Cells.{held_cells, is_flagged, is_unset, masked}
 use Rattle.clmodel.proofs.Steps.{none_some}
+use Rattle.spaces.proofs.Changed.{row_out}
+use Rattle.spaces.proofs.Fills.{with_none, with_more}
 use Rattle.spaces.proofs.Parts.{masked_many}
 use Rattle.spaces.proofs.Tables.{unreplaced}
 use Rattle.spaces.specs.Buffers.{row_in, with_bytes, repeated}
@@ -469,3 +472,108 @@ beneath_set bytes flags e = ap bytes_beneath (set_from (is_flagged flags) 0 byte
 pub tidied_none : (flags : Table (List ℕ)) (name row : List ℕ) → find flags name ≡ None → tidied (set_value (is name) flags row) name ≡ flags
 tidied_none flags name row none =
     ap (λ es. tidied es name) (unreplaced flags name row none) ∙ ap (λ o. if has_unset (unwrap_or o []) then flags else remove_entry (is name) flags) none ∙ unremoved flags name none
+
+-- ---- bytes and flags in the form that a launch leaves
+
+beneath_from : (unset : ℕ → Bool) (first : ℕ) (bytes : List ℕ) (k : ℕ) → slice_index (bytes_beneath (masked unset first (map Some bytes))) k ≡ (if unset (first + k) then 0 else slice_index bytes k)
+beneath_from unset first [] k = by (unset (first + k))
+  where
+    by : (b : Bool) → ◌≡◌ {A = ℕ} 0 (if b then 0 else 0)
+    by true = refl
+    by false = refl
+beneath_from unset first (byte ∷ bytes) zero = by (unset first) ∙ ap (λ n. if unset n then 0 else byte) {x = first} {y = first + 0} (omega arith)
+  where
+    by : (b : Bool) → unwrap_or (if b then None else Some byte) 0 ≡ (if b then 0 else byte)
+    by true = refl
+    by false = refl
+beneath_from unset first (byte ∷ bytes) (suc k) =
+    beneath_from unset (suc first) bytes k ∙ ap (λ n. if unset n then 0 else slice_index bytes k) {x = suc first + k} {y = first + suc k} (omega arith)
+
+over_from : (unset : ℕ → Bool) (first : ℕ) (bytes : List ℕ) (k : ℕ) → k < length bytes → slice_index (flags_over (masked unset first (map Some bytes))) k ≡ (if unset (first + k) then 1 else 0)
+over_from unset first [] k h = absurd (omega (arith, h))
+over_from unset first (byte ∷ bytes) zero h = by (unset first) ∙ ap (λ n. if unset n then 1 else 0) {x = first} {y = first + 0} (omega arith)
+  where
+    by : (b : Bool) → (if is_some (if b then None else Some byte) then 0 else 1) ≡ (if b then 1 else 0)
+    by true = refl
+    by false = refl
+over_from unset first (byte ∷ bytes) (suc k) h =
+    over_from unset (suc first) bytes k (omega (arith, h)) ∙ ap (λ n. if unset n then 1 else 0) {x = suc first + k} {y = first + suc k} (omega arith)
+
+flag_at : (flags : List ℕ) (k : ℕ) → k < length flags → is_flagged flags k ≡ not (slice_index flags k == 0)
+flag_at flags k h = ap is_unset (slice_get-get_or flags k 0 h)
+
+chosen : {A : Type 0} (b : Bool) (x y : A) → (if not b then x else y) ≡ (if b then y else x)
+chosen true x y = refl
+chosen false x y = refl
+
+-- bytes of which as many as these are in that form
+abbrev pub halfway : List ℕ → List ℕ → ℕ → List ℕ
+halfway old new place = with_bytes old 0 (take place new)
+
+pub half_none : (old new : List ℕ) → old ≡ halfway old new 0
+half_none old new = with_none old 0
+
+pub half_all : (old new : List ℕ) (place : ℕ) → length new ≡ length old → length old ≤ place → halfway old new place ≡ new
+half_all old new place many past =
+    ap (with_bytes old 0) (take_all place new (omega (arith, many, past))) ∙ ap (λ l. new ++ l) (drop_all (0 + length new) old (omega (arith, many))) ∙ append-nil new
+
+half_more : (old new : List ℕ) (place b : ℕ) → place < length old → length new ≡ length old → b ≡ slice_index new place → with_bytes (halfway old new place) place (b ∷ []) ≡ halfway old new (place + 1)
+half_more old new place b inside many is =
+    let long : length (take place new) ≡ place = omega (arith, length-take place new, many, inside) in
+    with_more old (take place new) (b ∷ []) 0 place (omega (arith, long)) (omega (arith, long, inside))
+    ∙ ap (with_bytes old 0) (ap (λ x. take place new ++ x ∷ []) is ∙ sym (take_more new place 0 (omega (arith, many, inside))))
+
+pub half_here : (old new : List ℕ) (place : ℕ) → place < length old → length new ≡ length old → slice_index (halfway old new place) place ≡ slice_index old place
+half_here old new place inside many =
+    row_out old 0 (take place new) place (omega arith) (λ a b. omega (arith, b, length-take place new, many, inside))
+
+-- the form is as long as what it is of
+pub bytes_left : (bytes flags : List ℕ) → length (bytes_beneath (held_cells bytes flags)) ≡ length bytes
+bytes_left bytes flags = beneath_many (held_cells bytes flags) ∙ held_many bytes flags
+
+pub flags_left : (bytes flags : List ℕ) → length flags ≡ length bytes → length (flags_over (held_cells bytes flags)) ≡ length flags
+flags_left bytes flags both = over_many (held_cells bytes flags) ∙ held_many bytes flags ∙ sym both
+
+-- one byte more
+pub byte_settled :
+    (bytes flags now next : List ℕ) (place flag : ℕ) → length flags ≡ length bytes → place < length bytes → now ≡ halfway bytes (bytes_beneath (held_cells bytes flags)) place → flag ≡ slice_index flags place
+    → next ≡ with_bytes now place ((if flag == 0 then slice_index now place else 0) ∷ []) → next ≡ halfway bytes (bytes_beneath (held_cells bytes flags)) (place + 1)
+byte_settled bytes flags now next place flag both inside at here is =
+    is
+    ∙ ap (λ row. with_bytes row place ((if flag == 0 then slice_index row place else 0) ∷ [])) at
+    ∙ half_more bytes goal place (if flag == 0 then slice_index (halfway bytes goal place) place else 0) inside many
+    (ap (λ n. if flag == 0 then n else 0) (half_here bytes goal place inside many)
+    ∙ ap (λ n. if n == 0 then slice_index bytes place else 0) here
+    ∙ sym (chosen (slice_index flags place == 0) 0 (slice_index bytes place))
+    ∙ ap (λ b. if b then 0 else slice_index bytes place) (sym (flag_at flags place (omega (arith, both, inside))))
+    ∙ sym (beneath_from (is_flagged flags) 0 bytes place))
+  where
+    goal : List ℕ
+    goal = bytes_beneath (held_cells bytes flags)
+
+    many : length goal ≡ length bytes
+    many = bytes_left bytes flags
+
+-- and one flag more
+pub flag_settled :
+    (bytes flags now next : List ℕ) (place flag : ℕ) → length flags ≡ length bytes → place < length bytes → now ≡ halfway flags (flags_over (held_cells bytes flags)) place → flag ≡ slice_index flags place
+    → next ≡ with_bytes now place ((if flag == 0 then 0 else 1) ∷ []) → next ≡ halfway flags (flags_over (held_cells bytes flags)) (place + 1)
+flag_settled bytes flags now next place flag both inside at here is =
+    is
+    ∙ ap (λ row. with_bytes row place ((if flag == 0 then 0 else 1) ∷ [])) at
+    ∙ half_more flags goal place (if flag == 0 then 0 else 1) (omega (arith, both, inside)) many
+    (ap (λ n. if n == 0 then 0 else 1) here
+    ∙ sym (chosen (slice_index flags place == 0) 1 0)
+    ∙ ap (λ b. if b then 1 else 0) (sym (flag_at flags place (omega (arith, both, inside))))
+    ∙ sym (over_from (is_flagged flags) 0 bytes place inside))
+  where
+    goal : List ℕ
+    goal = flags_over (held_cells bytes flags)
+
+    many : length goal ≡ length flags
+    many = flags_left bytes flags both
+
+-- what is written where it is already
+pub with_same : (row : List ℕ) (place b : ℕ) → place < length row → b ≡ slice_index row place → with_bytes row place (b ∷ []) ≡ row
+with_same row place b inside is =
+    ap (λ x. take place row ++ x ∷ drop (place + 1) row) is ∙ ap (λ l. take place row ++ l) (sym (drop_more row place 0 inside)) ∙ take-append-drop place row

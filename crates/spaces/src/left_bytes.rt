@@ -1,11 +1,11 @@
 //! What a launch leaves in buffers (OpenCL 1.2, sections 5.2.1 and 5.8; C99 6.7.8).
 #![tactic(auto)]
 
-ghost use Rattle.std.specs.Prelude.{◌≡◌, length, map};
+ghost use Rattle.std.specs.Prelude.{◌≡◌, ◌<◌, ◌==◌, if◌then◌else◌, [], ◌∷◌, length, map, slice_index};
 ghost use Rattle.std.specs.List.{All};
 ghost use Rattle.std.specs.Map.{set_value};
 ghost use Rattle.clmodel.specs.Cells.{held_cells};
-ghost use Rattle.spaces.specs.Buffers.{row_in};
+ghost use Rattle.spaces.specs.Buffers.{row_in, with_bytes};
 ghost use Rattle.spaces.specs.Changes.{with_changes};
 ghost use Rattle.spaces.specs.FlagRows.{AreFit, tidied, both_with_changes, bytes_beneath, flags_over, with_all_flags};
 ghost use Rattle.spaces.specs.Tables.{is, with_values};
@@ -15,7 +15,28 @@ use crate::changes::Changes;
 use clmodel::outcome::Contents;
 use clmodel::text::{Bytes, Name};
 
-/// Makes the bytes beneath flags 0, and the flags of unset bytes 1. It writes nothing where it is so already.
+/// Makes a byte 0 where its flag says that it is unset. It writes nothing where it is so already.
+fn settle_byte(bytes: &mut Bytes, place: usize, flag: u8)
+    requires { place < length bytes.old }
+    ensures { bytes.new ≡ with_bytes bytes.old place ((if flag == 0 then slice_index bytes.old place else 0) ∷ []) }
+{
+    if flag != 0 && bytes.as_slice()[place] != 0 {
+        bytes.put(place, &[0]);
+    }
+}
+
+/// Makes a flag 1 where it is that of an unset byte. It writes nothing where it is so already.
+fn settle_flag(flags: &mut Bytes, place: usize, flag: u8)
+    requires inside { place < length flags.old }
+    requires here { flag ≡ slice_index flags.old place }
+    ensures { flags.new ≡ with_bytes flags.old place ((if flag == 0 then 0 else 1) ∷ []) }
+{
+    if flag > 1 {
+        flags.put(place, &[1]);
+    }
+}
+
+/// Makes the bytes beneath flags 0, and the flags of unset bytes 1.
 fn settle(bytes: &mut Bytes, flags: &mut Bytes)
     requires { length flags.old ≡ length bytes.old }
     ensures bytes { bytes.new ≡ bytes_beneath (held_cells bytes.old flags.old) }
@@ -23,12 +44,8 @@ fn settle(bytes: &mut Bytes, flags: &mut Bytes)
 {
     for place in 0..flags.len() {
         let flag = flags.as_slice()[place];
-        if flag != 0 && bytes.as_slice()[place] != 0 {
-            bytes.put(place, &[0]);
-        }
-        if flag > 1 {
-            flags.put(place, &[1]);
-        }
+        settle_byte(bytes, place, flag);
+        settle_flag(flags, place, flag);
     }
 }
 
