@@ -19,8 +19,8 @@ loop-place-preserved c =
     let place = c.loop-place.place in
     let inside : place < length bytes = omega (arith, c.requires, c.loop-place-test.true) in
     let here : c.flag.result ≡ slice_index flags place =
-        get_or_read c.loop-place.flags _ _ (omega (arith, c.loop-place-test.true)) c.index.ensures 0 ∙ ap (λ row. slice_index row place) c.loop-place.invariant.flags
-        ∙ half_here flags (flags_over (held_cells bytes flags)) place (omega (arith, c.loop-place-test.true)) (flags_left bytes flags c.requires) in
+    get_or_read c.loop-place.flags _ _ (omega (arith, c.loop-place-test.true)) c.index.ensures 0 ∙ ap (λ row. slice_index row place) c.loop-place.invariant.flags
+    ∙ half_here flags (flags_over (held_cells bytes flags)) place (omega (arith, c.loop-place-test.true)) (flags_left bytes flags c.requires) in
     record {
       bytes = byte_settled bytes flags _ _ place _ c.requires inside c.loop-place.invariant.bytes here c.settle_byte.ensures;
       flags = flag_settled bytes flags _ _ place _ c.requires inside c.loop-place.invariant.flags here c.settle_flag.ensures;
