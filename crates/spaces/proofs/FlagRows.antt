@@ -1,5 +1,5 @@
 -- Rows of flags beside the buffers that they are of.
-use Rattle.std.proofs.Common.{◌≡◌, ℕ, zero, suc, ◌+◌, ◌-◌, ◌<◌, ◌≤◌, ◌%◌, ◌⊎◌, inl, inr, Bool, true, false, not, cond, ◌||◌, if◌then◌else◌, List, [], ◌∷◌, ◌++◌, Option, None, Some, is_some, length, map, take, drop, replicate, refl, sym, ap, ap₂, subst, ◌∙◌, arith, append-nil, take-append-drop, length-append, length-take, length-drop}
+use Rattle.std.proofs.Common.{◌≡◌, ℕ, zero, suc, ◌+◌, ◌-◌, ◌<◌, ◌≤◌, ◌%◌, ◌⊎◌, inl, inr, Bool, true, false, not, cond, ◌||◌, if◌then◌else◌, List, [], ◌∷◌, ◌++◌, Option, None, Some, is_some, Result, Ok, Err, OnOk, OnErr, length, map, take, drop, replicate, refl, sym, ap, ap₂, subst, ◌∙◌, arith, append-nil, take-append-drop, length-append, length-take, length-drop}
 use Rattle.std.specs.List.{list_any, range_with_len}
 use Rattle.std.specs.Map.{remove_entry, set_value}
 use Rattle.std.specs.Option.{unwrap_or}
@@ -14,7 +14,7 @@ use Rattle.spaces.proofs.Fills.{with_none, with_more}
 use Rattle.spaces.proofs.Parts.{masked_many}
 use Rattle.spaces.proofs.Tables.{unreplaced}
 use Rattle.spaces.specs.Buffers.{row_in, with_bytes, repeated}
-use Rattle.spaces.specs.FlagRows.{AreOnce, AreFit, has_unset, tidied, with_flags, with_set, both_with_changes, bytes_beneath, flags_over}
+use Rattle.spaces.specs.FlagRows.{AreOnce, AreFit, has_unset, tidied, with_flags, with_set, with_row, both_with_changes, bytes_beneath, flags_over}
 use Rattle.spaces.specs.Changes.{Changed, with_changes}
 use Rattle.spaces.specs.Parts.{lowest_marked, marked_run}
 use Rattle.spaces.specs.Tables.{Table, is, find}
@@ -301,9 +301,33 @@ fit_with bytes flags name row offset fit inside = go (is_some (find flags name))
         let next : List ℕ = with_bytes (row_in flags name) offset row in
         fit_tidied bytes (set_value (is name) flags next) name (fit_flags bytes flags name next fit (λ h. long_with (row_in flags name) row offset (inside p)))
 
+-- a buffer that is added, or isn't
+pub fit_inserted :
+    {T E : Type 0} (r : Result T E) (bytes flags new : Table (List ℕ)) (name row : List ℕ) → AreFit bytes flags → find bytes name ≡ None → OnOk r (new ≡ bytes ++ (name, row) ∷ []) → OnErr r (new ≡ bytes)
+    → AreFit new flags
+fit_inserted (Ok t) bytes flags new name row fit none ok err = subst (λ (es : Table (List ℕ)). AreFit es flags) (sym ok) (fit_made bytes flags name row fit none)
+fit_inserted (Err e) bytes flags new name row fit none ok err = subst (λ (es : Table (List ℕ)). AreFit es flags) (sym err) fit
+
+-- what was added last goes again
+pub removed_last : {A : Type 0} (es : Table A) (name : List ℕ) (value : A) → find es name ≡ None → remove_entry (is name) (es ++ (name, value) ∷ []) ≡ es
+removed_last [] name value none = ap (λ b. cond b [] ((name, value) ∷ [])) ((bytes_decides name name).1 refl)
+removed_last {A} (e ∷ es) name value none =
+    let apart = not_there e es name none in
+    ap (λ b. cond b (es ++ (name, value) ∷ []) (e ∷ remove_entry (is name) (es ++ (name, value) ∷ []))) apart.0 ∙ ap (λ l. e ∷ l) (removed_last es name value apart.1)
+
 pub many_zeros : (n b : ℕ) → length (replicate n b) ≡ n
 many_zeros zero b = refl
 many_zeros (suc n) b = ap suc (many_zeros n b)
+
+-- a row for a buffer that has none, where it is to have flags
+pub fit_with_row :
+    (bytes flags : Table (List ℕ)) (name row : List ℕ) (size : ℕ) → AreFit bytes flags → is_some (find bytes name) ≡ true → size ≡ length (row_in bytes name) → AreFit bytes (with_row flags name size row)
+fit_with_row bytes flags name row size fit there long = go (is_some (find flags name)) refl (has_unset row)
+  where
+    go : (a : Bool) → is_some (find flags name) ≡ a → (b : Bool) → AreFit bytes (if a || not b then flags else flags ++ (name, replicate size 0) ∷ [])
+    go true p b = fit
+    go false p false = fit
+    go false p true = fit_row bytes flags name (replicate size 0) fit (none_if (find flags name) (λ h. true≢false (sym h ∙ p))) there (many_zeros size 0 ∙ long)
 
 -- bytes that are written, and are set then
 pub fit_written :
