@@ -343,6 +343,13 @@ fit_written bytes flags held marked name row offset count fit inside many b f =
     next : List ℕ
     next = with_bytes (row_in bytes name) offset row
 
+-- bytes that are written into a buffer whose flags are as they are to be
+pub fit_held :
+    (bytes flags held : Table (List ℕ)) (name row : List ℕ) (offset : ℕ) → AreFit bytes flags → offset + length row ≤ length (row_in bytes name) → held ≡ set_value (is name) bytes (with_bytes (row_in bytes name) offset row)
+    → AreFit held flags
+fit_held bytes flags held name row offset fit inside b =
+    subst (λ (es : Table (List ℕ)). AreFit es flags) (sym b) (fit_bytes bytes flags name (with_bytes (row_in bytes name) offset row) fit (λ h. long_with (row_in bytes name) row offset inside))
+
 -- a pattern of one zero, again and again
 zeros_from : (first n : ℕ) → map (λ byte. get_or (0 ∷ []) (byte % 1) 0) (range_with_len first n) ≡ replicate n 0
 zeros_from first zero = refl
