@@ -8,7 +8,6 @@ use Rattle.std.proofs.lemmas.Bool.{true≢false}
 use Rattle.std.proofs.lemmas.Option.{slice_get-get_or}
 use Rattle.std.proofs.lemmas.List.{length-map, drop_all, drop_more, take_all, take_more}
 use Rattle.clmodel.specs.Cells.{held_cells, is_flagged, is_unset, masked}
-use Rattle.clmodel.proofs.Steps.{none_some}
 use Rattle.spaces.proofs.Changed.{row_out}
 use Rattle.spaces.proofs.Fills.{with_none, with_more}
 use Rattle.spaces.proofs.Parts.{masked_many}
@@ -37,7 +36,7 @@ not_there : {A : Type 0} (e : List ℕ × A) (es : Table A) (name : List ℕ) �
 not_there e es name h = go (is name e.0) h
   where
     go : (b : Bool) → cond b (Some e.1) (find es name) ≡ None → (b ≡ false) × (find es name ≡ None)
-    go true k = absurd (none_some e.1 (sym k))
+    go true k = absurd (true≢false (ap is_some k))
     go false k = (refl, k)
 
 -- ---- what is found after an edit
