@@ -8,5 +8,6 @@ pub mod Played
 pub mod Reaching
 pub mod Showing
 pub mod Telling
+pub mod Standing
 pub mod Spots
 mod Shown
