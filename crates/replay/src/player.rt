@@ -13,6 +13,7 @@ ghost use Rattle.launches.specs.Groups.{IsRunnable, filled};
 ghost use Rattle.launches.specs.Objects.{SpacesHold};
 ghost use Rattle.replay.specs.Items.{AreAsked, IsAskedAt, StandsAt, dividend_in, stand_in};
 ghost use Rattle.replay.specs.States.{ActsNext, Gathers, IsAt, IsPlayed};
+ghost use Rattle.replay.specs.Told.{with_log, without_newest};
 
 use crate::dividends::dividend_at;
 use crate::group::{Group, new_groups};
@@ -27,7 +28,8 @@ use slot_pages::Slots;
 use spaces::{Plain, Space, first_byte};
 use std::alloc::{AllocError, Global};
 
-/// A launch as it is played: its items, one memory that they share, and the accesses so far, the oldest first.
+/// A launch as it is played: its items, one memory that they share, and the accesses so far, the oldest first. Items
+/// that weren't asked yet take no memory to speak of, nor do those that have ended.
 #[derive(Drop)]
 pub struct Player<'a, D> {
     alloc: Global,
@@ -141,6 +143,13 @@ impl<'a, D: Runnable> Player<'a, D> {
         ensures { (launch : Launch) (started : ℕ → Running) (state : State) → IsAt D.launch D.started launch started self.now state → result.now ≡ reverse state.log }
     {
         self.log.as_slice()
+    }
+
+    /// Lets the newest access of the log go, if there is one: the player is then at the state without it.
+    pub(crate) fn forget(&mut self)
+        ensures { (launch : Launch) (started : ℕ → Running) (state : State) → IsAt D.launch D.started launch started self.old state → IsAt D.launch D.started launch started self.new (with_log state (without_newest state.log)) }
+    {
+        self.log.pop();
     }
 
     /// How many bytes an object has, none where there is no such object.

@@ -1,5 +1,7 @@
 -- The items of a launch as they are asked and answered (own).
-use Rattle.std.specs.Prelude.{◌≡◌, ℕ, Option, None, Some, List, [], ◌∷◌, ◌++◌, slice_get, slice_set}
+use Rattle.std.specs.Prelude.{◌≡◌, ℕ, ◌<◌, ◌^◌, Option, None, Some, List, [], ◌∷◌, ◌++◌, length, slice_get, slice_set}
+use Rattle.std.specs.Borrow.{Bor}
+use Rattle.std.specs.List.{sum_by}
 use Rattle.clmodel.specs.Launch.{Launch}
 use Rattle.clmodel.specs.declared.action.Answer.{Answer}
 use Rattle.item_step.specs.Running.{Running}
@@ -32,8 +34,18 @@ IsIdle (Some slot.Waiting) = Unit {0}
 IsIdle (Some (slot.Running running)) = ⊥
 IsIdle (Some slot.Ended) = Unit {0}
 
+-- the slot at a place is lent, or it isn't under way
+abbrev pub IsLent : Option (Bor Slot) → Option Slot → Type 0
+IsLent None there = IsIdle there
+IsLent (Some lent) there = there ≡ Some lent.now
+
 -- one for an item that hasn't ended, none for one that has
 abbrev pub unended : Slot → ℕ
 unended slot.Waiting = 1
 unended (slot.Running running) = 1
 unended slot.Ended = 0
+
+-- so many of these items haven't ended
+pub record IsCounted (left : ℕ) (slots : List Slot) : Type 0 where
+  pub counts : left ≡ sum_by unended slots
+  pub few : length slots < 2 ^ 32

@@ -1,6 +1,6 @@
 //! The slots of items that follow one another.
 
-ghost use Rattle.std.specs.Prelude.{◌≡◌, ◌<◌, ℕ, [], length, replicate, slice_get, Some, IfOk, OnOk};
+ghost use Rattle.std.specs.Prelude.{◌≡◌, ◌+◌, ◌-◌, ◌^◌, ◌<◌, ◌≤◌, ℕ, [], length, replicate, slice_get, Some, IfOk, OnOk};
 ghost use Rattle.std.specs.Bool.{Decides};
 ghost use Rattle.clmodel.specs.Launch.{Launch};
 ghost use Rattle.launches.specs.Items.{IsAsked, Stands, acts_of};
@@ -17,30 +17,38 @@ use std::marker::Model;
 #[derive(Drop)]
 pub(crate) struct OpenPage<'a> {
     slots: Vec<Slot<'a>>,
-    left: usize,
+    left: u32,
 }
 
 impl<'a> Model for OpenPage<'a> {
-    ghost use Rattle.std.specs.Prelude.{◌≡◌, List};
-    ghost use Rattle.std.specs.List.{sum_by};
+    ghost use Rattle.std.specs.Prelude.{List};
     ghost use Rattle.launches.specs.declared.slot.Slot.{Slot};
-    ghost use Rattle.slot_pages.specs.Items.{unended};
+    ghost use Rattle.slot_pages.specs.Items.{IsCounted};
 
     ghost Value = { List Slot };
 
     ghost view = { λ p. p.slots.items };
 
-    ghost invariant = { λ p. p.left ≡ sum_by unended p.slots.items };
+    ghost invariant = { λ p. IsCounted p.left p.slots.items };
 }
 
 /// One for an item that hasn't ended, none for one that has.
-fn unended(slot: &Slot<'_>) -> usize
+fn unended(slot: &Slot<'_>) -> u32
     ensures { result ≡ unended slot.now }
 {
     match slot {
         Slot::Waiting | Slot::Running(_) => 1,
         Slot::Ended => 0,
     }
+}
+
+/// How many items haven't ended, once one of them that counted for `before` counts for `after`.
+fn recount(left: u32, before: u32, after: u32) -> u32
+    requires counted { before ≤ left }
+    requires fits { left - before + after < 2 ^ 32 }
+    ensures { result ≡ left - before + after }
+{
+    left - before + after
 }
 
 /// The next action of an item, which was asked, is answered, and the item goes on to the one after it, so that one that
@@ -59,8 +67,7 @@ impl<'a> OpenPage<'a> {
         ensures { IfOk result (λ page. page ≡ replicate count slot.Waiting) }
     {
         let slots = waiting_items(alloc, count)?;
-        let left = count as usize;
-        Ok(OpenPage { slots, left })
+        Ok(OpenPage { slots, left: count })
     }
 
     /// The slots, in the order of their items.
@@ -95,7 +102,7 @@ impl<'a> OpenPage<'a> {
         let before = unended(slot);
         let action = slot.next(alloc, launch, item);
         let after = unended(slot);
-        self.left = self.left - before + after;
+        self.left = recount(self.left, before, after);
         action
     }
 
@@ -109,6 +116,6 @@ impl<'a> OpenPage<'a> {
         let before = unended(slot);
         answer_slot(slot, answer);
         let after = unended(slot);
-        self.left = self.left - before + after;
+        self.left = recount(self.left, before, after);
     }
 }

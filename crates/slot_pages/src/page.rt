@@ -1,10 +1,10 @@
 //! What is kept of items that follow one another.
 
-ghost use Rattle.std.specs.Prelude.{◌≡◌, ◌<◌, ◌%◌, ℕ, [], length, replicate, slice_get, Some, IfOk, MatchOption, OnErr, OnOk};
+ghost use Rattle.std.specs.Prelude.{◌≡◌, ◌<◌, ◌%◌, ℕ, [], length, replicate, slice_get, Some, IfOk, OnErr, OnOk};
 ghost use Rattle.clmodel.specs.Launch.{Launch};
 ghost use Rattle.launches.specs.Items.{IsAsked, Stands, acts_of};
 ghost use Rattle.launches.specs.declared.slot.Slot.{Slot};
-ghost use Rattle.slot_pages.specs.Items.{IsAlike, IsAnswered, IsChanged, IsIdle};
+ghost use Rattle.slot_pages.specs.Items.{IsAlike, IsAnswered, IsChanged, IsLent};
 ghost use Rattle.slot_pages.specs.Pages.{IsNeeded, slots_in};
 ghost use Rattle.slot_pages.specs.declared.page.Page.TheVariants as page;
 
@@ -41,14 +41,16 @@ pub(crate) fn waiting_pages<'a>(alloc: Global, count: u32) -> Result<Vec<Page<'a
 impl<'a> Page<'a> {
     /// Makes the slots of a page of this many items, where none of these was asked yet. An error is out of memory, and
     /// leaves the page.
-    fn open(&mut self, alloc: Global, size: u32) -> Result<(), AllocError>
+    fn make_slots(&mut self, alloc: Global, size: u32) -> Result<(), AllocError>
         ensures same { slots_in size self.new ≡ slots_in size self.old }
-        ensures open { OnOk result (self.new ≡ page.Waiting → ⊥) }
+        ensures made { OnOk result (self.new ≡ page.Waiting → ⊥) }
         ensures kept { OnErr result (self.new ≡ self.old) }
     {
-        if let Page::Waiting = *self {
-            *self = Page::Open(OpenPage::new(alloc, size)?);
-        }
+        let Page::Waiting = *self else {
+            return Ok(());
+        };
+        let opened = OpenPage::new(alloc, size)?;
+        *self = Page::Open(opened);
         Ok(())
     }
 
@@ -57,20 +59,23 @@ impl<'a> Page<'a> {
         ensures same { (size : ℕ) → length (slots_in size self.old) ≡ size → slots_in size self.new ≡ slots_in size self.old }
         ensures needed { IsNeeded self.new }
     {
-        if let Page::Open(open) = self {
-            if open.is_over() {
-                *self = Page::Ended;
-            }
+        let Page::Open(opened) = self else {
+            return;
+        };
+        if !opened.is_over() {
+            return;
         }
+        *self = Page::Ended;
     }
 
     /// The slot at a place, if the page is open.
     pub(crate) fn get(&self, place: usize) -> Option<&Slot<'a>>
-        ensures { (size : ℕ) → MatchOption result (IsIdle (slice_get (slots_in size self.now) place)) (λ slot. slice_get (slots_in size self.now) place ≡ Some slot.now) }
+        ensures { (size : ℕ) → IsLent result (slice_get (slots_in size self.now) place) }
     {
         match self {
-            Page::Open(open) => open.slots().get(place),
-            Page::Waiting | Page::Ended => None,
+            Page::Open(opened) => opened.slots().get(place),
+            Page::Waiting => None,
+            Page::Ended => None,
         }
     }
 
@@ -91,12 +96,12 @@ impl<'a> Page<'a> {
         ensures stands { IfOk result (λ action. (x : Slot) → slice_get (slots_in size self.new) (item % 256) ≡ Some x → Stands x action) }
         ensures needed { IsNeeded self.new }
     {
-        self.open(alloc, size)?;
-        let Page::Open(open) = self else {
+        self.make_slots(alloc, size)?;
+        let Page::Open(opened) = self else {
             return Ok(Action::End);
         };
         let place = (item % PAGE) as usize;
-        let action = open.next(place, alloc, launch, item);
+        let action = opened.next(place, alloc, launch, item);
         self.let_go();
         action
     }
@@ -107,11 +112,11 @@ impl<'a> Page<'a> {
         ensures answered { (size : ℕ) → item % 256 < size → length (slots_in size self.old) ≡ size → (launch : Launch) → IsChanged (IsAnswered launch answer item) (item % 256) (slots_in size self.old) (slots_in size self.new) }
         ensures needed { IsNeeded self.new }
     {
-        let Page::Open(open) = self else {
+        let Page::Open(opened) = self else {
             return;
         };
         let place = (item % PAGE) as usize;
-        open.answer(place, answer);
+        opened.answer(place, answer);
         self.let_go();
     }
 }

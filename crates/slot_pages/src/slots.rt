@@ -1,11 +1,11 @@
 //! The slots of all items of a launch.
 
-ghost use Rattle.std.specs.Prelude.{◌≡◌, ◌<◌, ◌/◌, [], length, replicate, slice_get, Some, IfOk, MatchOption, OnOk};
+ghost use Rattle.std.specs.Prelude.{◌≡◌, ◌<◌, ◌/◌, [], length, replicate, slice_get, Some, IfOk, OnOk};
 ghost use Rattle.clmodel.specs.Launch.{Launch};
 ghost use Rattle.launches.specs.Items.{IsAsked, Stands, acts_of};
 ghost use Rattle.launches.specs.declared.slot.Slot.{Slot};
 ghost use Rattle.launches.specs.declared.slot.Slot.TheVariants as slot;
-ghost use Rattle.slot_pages.specs.Items.{IsAlike, IsAnswered, IsChanged, IsIdle};
+ghost use Rattle.slot_pages.specs.Items.{IsAlike, IsAnswered, IsChanged, IsLent};
 ghost use Rattle.slot_pages.specs.Pages.{size_of};
 
 use crate::page::{PAGE, Page, waiting_pages};
@@ -61,7 +61,7 @@ impl<'a> Slots<'a> {
 
     /// The slot of an item that was asked and hasn't ended. Another one is `None`, or waits or has ended.
     pub fn get(&self, item: u32) -> Option<&Slot<'a>>
-        ensures { MatchOption result (IsIdle (slice_get self.now item)) (λ slot. slice_get self.now item ≡ Some slot.now) }
+        ensures { IsLent result (slice_get self.now item) }
     {
         if item >= self.count {
             return None;
