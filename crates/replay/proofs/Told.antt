@@ -73,12 +73,12 @@ adds l s k log = inside (nat_lt k l.items)
     done region first op None = refl
     done region first op (Some outcome) = (access_of l s k region first op, refl, refl, refl)
 
-    at : (region : Region) (op : Operation) (o : Option ℕ) → Adds k log s (access_at l s k region op o) (access_at l (with_log s log) k region op o)
-    at region op None = refl
-    at region op (Some first) = done region first op (perform op (s.memory region) first)
+    by_byte : (region : Region) (op : Operation) (o : Option ℕ) → Adds k log s (access_at l s k region op o) (access_at l (with_log s log) k region op o)
+    by_byte region op None = refl
+    by_byte region op (Some first) = done region first op (perform op (s.memory region) first)
 
     acts : (a : Action) → Adds k log s (item_step l s k a) (item_step l (with_log s log) k a)
-    acts (action.Access object element op) = at (region_of (group_of l k) object) op (byte_at l k object element op)
+    acts (action.Access object element op) = by_byte (region_of (group_of l k) object) op (byte_at l k object element op)
     acts (action.Barrier _ _) = refl
     acts action.End = refl
     acts (action.Fault _) = refl
@@ -98,14 +98,14 @@ leaves : (l : Launch) (s : State) (g : ℕ) (log : List Access) → Leaves log s
 unfolding step
 leaves l s g log = by_first (first_item l g)
   where
-    from : (a : Action) → Leaves log s (release_from l s g a) (release_from l (with_log s log) g a)
-    from (action.Access _ _ _) = refl
-    from (action.Barrier _ fences) = (refl, refl)
-    from action.End = refl
-    from (action.Fault _) = refl
+    by_action : (a : Action) → Leaves log s (release_from l s g a) (release_from l (with_log s log) g a)
+    by_action (action.Access _ _ _) = refl
+    by_action (action.Barrier _ fences) = (refl, refl)
+    by_action action.End = refl
+    by_action (action.Fault _) = refl
 
     by_straggler : (first : ℕ) (o : Option ℕ) → Leaves log s (release_if l s g first o) (release_if l (with_log s log) g first o)
-    by_straggler first None = from (next_action l s first)
+    by_straggler first None = by_action (next_action l s first)
     by_straggler first (Some _) = refl
 
     by_first : (o : Option ℕ) → Leaves log s (release l s g o) (release l (with_log s log) g o)
@@ -118,12 +118,12 @@ leaves l s g log = by_first (first_item l g)
 kept_as :
     (t : Told) (s n : State) (x : Access) (b : Bool) → n.log ≡ x ∷ s.log → is_told t x.item ≡ b
     → with_log n (if b then x ∷ filter (λ y. is_told t y.item) s.log else filter (λ y. is_told t y.item) s.log) ≡ kept t n
-kept_as t s n x true e told = ap (with_log n) (sym (by_test (is_told t x.item) told) ∙ ap (filter (λ y. is_told t y.item)) (sym e))
+kept_as t s n x true e is = ap (with_log n) (sym (by_test (is_told t x.item) is) ∙ ap (filter (λ y. is_told t y.item)) (sym e))
   where
     by_test : (b : Bool) → b ≡ true → cond b (x ∷ filter (λ y. is_told t y.item) s.log) (filter (λ y. is_told t y.item) s.log) ≡ x ∷ filter (λ y. is_told t y.item) s.log
     by_test true h = refl
     by_test false h = absurd (false≢true h)
-kept_as t s n x false e told = ap (with_log n) (sym (by_test (is_told t x.item) told) ∙ ap (filter (λ y. is_told t y.item)) (sym e))
+kept_as t s n x false e is = ap (with_log n) (sym (by_test (is_told t x.item) is) ∙ ap (filter (λ y. is_told t y.item)) (sym e))
   where
     by_test : (b : Bool) → b ≡ false → cond b (x ∷ filter (λ y. is_told t y.item) s.log) (filter (λ y. is_told t y.item) s.log) ≡ filter (λ y. is_told t y.item) s.log
     by_test true h = absurd (false≢true (sym h))
@@ -144,7 +144,7 @@ never_kept t l s k P h = go (step l s (Item k)) refl (adds l s k (filter (λ x. 
 pub told_kept :
     (t : Told) (l : Launch) (s : State) (k : ℕ) (P : State → Type 0) → is_told t k ≡ true → IsPlayed l (kept t s) (Item k) P true
     → IsPlayed l s (Item k) (λ n. P (kept t n)) true
-told_kept t l s k P told h = go (step l s (Item k)) refl (adds l s k (filter (λ x. is_told t x.item) s.log))
+told_kept t l s k P is h = go (step l s (Item k)) refl (adds l s k (filter (λ x. is_told t x.item) s.log))
   where
     go :
         (o : Option State) → step l s (Item k) ≡ o → Adds k (filter (λ x. is_told t x.item) s.log) s o (step l (kept t s) (Item k))
@@ -152,13 +152,13 @@ told_kept t l s k P told h = go (step l s (Item k)) refl (adds l s k (filter (λ
     go None e same = absurd (none_some h.0 (sym same ∙ h.1))
     go (Some n) e same =
         let next : h.0 ≡ with_log n (same.0 ∷ filter (λ x. is_told t x.item) s.log) = some_inj h.0 (with_log n (same.0 ∷ filter (λ x. is_told t x.item) s.log)) (sym h.1 ∙ same.3) in
-        (n, e, subst P (next ∙ kept_as t s n same.0 true same.2 (ap (is_told t) same.1 ∙ told)) h.2)
+        (n, e, subst P (next ∙ kept_as t s n same.0 true same.2 (ap (is_told t) same.1 ∙ is)) h.2)
 
 -- one whose access isn't, and is let go
 pub untold_kept :
     (t : Told) (l : Launch) (s : State) (k : ℕ) (P Q : State → Type 0) → is_told t k ≡ false → ((n : State) → P n → Q (with_log n (without_newest n.log)))
     → IsPlayed l (kept t s) (Item k) P true → IsPlayed l s (Item k) (λ n. Q (kept t n)) true
-untold_kept t l s k P Q untold forget h = go (step l s (Item k)) refl (adds l s k (filter (λ x. is_told t x.item) s.log))
+untold_kept t l s k P Q is forget h = go (step l s (Item k)) refl (adds l s k (filter (λ x. is_told t x.item) s.log))
   where
     go :
         (o : Option State) → step l s (Item k) ≡ o → Adds k (filter (λ x. is_told t x.item) s.log) s o (step l (kept t s) (Item k))
@@ -167,17 +167,17 @@ untold_kept t l s k P Q untold forget h = go (step l s (Item k)) refl (adds l s 
     go (Some n) e same =
         let log : List Access = same.0 ∷ filter (λ x. is_told t x.item) s.log in
         let next : h.0 ≡ with_log n log = some_inj h.0 (with_log n log) (sym h.1 ∙ same.3) in
-        (n, e, subst Q (kept_as t s n same.0 false same.2 (ap (is_told t) same.1 ∙ untold)) (forget (with_log n log) (subst P next h.2)))
+        (n, e, subst Q (kept_as t s n same.0 false same.2 (ap (is_told t) same.1 ∙ is)) (forget (with_log n log) (subst P next h.2)))
 
 -- a release
 pub release_kept :
-    (t : Told) (l : Launch) (s : State) (g : ℕ) (P : State → Type 0) (yes : Bool) → IsPlayed l (kept t s) (Release g) P yes
-    → IsPlayed l s (Release g) (λ n. P (kept t n)) yes
-release_kept t l s g P yes h = go yes h (step l s (Release g)) refl (leaves l s g (filter (λ x. is_told t x.item) s.log))
+    (t : Told) (l : Launch) (s : State) (g : ℕ) (P : State → Type 0) (answer : Bool) → IsPlayed l (kept t s) (Release g) P answer
+    → IsPlayed l s (Release g) (λ n. P (kept t n)) answer
+release_kept t l s g P answer h = go answer h (step l s (Release g)) refl (leaves l s g (filter (λ x. is_told t x.item) s.log))
   where
     go :
-        (yes : Bool) → IsPlayed l (kept t s) (Release g) P yes → (o : Option State) → step l s (Release g) ≡ o
-        → Leaves (filter (λ x. is_told t x.item) s.log) s o (step l (kept t s) (Release g)) → IsPlayed l s (Release g) (λ n. P (kept t n)) yes
+        (answer : Bool) → IsPlayed l (kept t s) (Release g) P answer → (o : Option State) → step l s (Release g) ≡ o
+        → Leaves (filter (λ x. is_told t x.item) s.log) s o (step l (kept t s) (Release g)) → IsPlayed l s (Release g) (λ n. P (kept t n)) answer
     go false h None e same = (e, h.1)
     go false h (Some n) e same = absurd (none_some (with_log n (filter (λ x. is_told t x.item) s.log)) (sym h.0 ∙ same.1))
     go true h None e same = absurd (none_some h.0 (sym same ∙ h.1))
@@ -221,15 +221,15 @@ of_second true = refl
 of_second false = refl
 
 -- a state with the accesses alone of which a fault tells shows it where the state does
-pub shows_kept : (l : Launch) (s : State) (f : Fault) (yes : Bool) → Decides yes (Shows l (kept (told_by f) s) f) → Decides yes (Shows l s f)
-shows_kept l s (fault.Conflict clash item kind other other_kind location byte) yes h = (λ e. all (h.0 e), λ shown. h.1 (some shown))
+pub shows_kept : (l : Launch) (s : State) (f : Fault) (answer : Bool) → Decides answer (Shows l (kept (told_by f) s) f) → Decides answer (Shows l s f)
+shows_kept l s (fault.Conflict clash item kind other other_kind location byte) answer h = (λ e. of_kept (h.0 e), λ shown. h.1 (to_kept shown))
   where
-    all : Shows l (kept (told.Pair item other) s) (fault.Conflict clash item kind other other_kind location byte) → Shows l s (fault.Conflict clash item kind other other_kind location byte)
-    all (x, y, first, second, rest) =
+    of_kept : Shows l (kept (told.Pair item other) s) (fault.Conflict clash item kind other other_kind location byte) → Shows l s (fault.Conflict clash item kind other other_kind location byte)
+    of_kept (x, y, first, second, rest) =
         (x, y, made (λ z. is_told (told.Pair item other) z.item) s.log x first, made (λ z. is_told (told.Pair item other) z.item) s.log y second, rest)
 
-    some : Shows l s (fault.Conflict clash item kind other other_kind location byte) → Shows l (kept (told.Pair item other) s) (fault.Conflict clash item kind other other_kind location byte)
-    some (x, y, first, second, of_item, of_kind, of_other, rest) = (
+    to_kept : Shows l s (fault.Conflict clash item kind other other_kind location byte) → Shows l (kept (told.Pair item other) s) (fault.Conflict clash item kind other other_kind location byte)
+    to_kept (x, y, first, second, of_item, of_kind, of_other, rest) = (
       x,
       y,
       stays_logged (λ z. is_told (told.Pair item other) z.item) s.log x (ap (λ b. b || (x.item == other)) (eq-eqb x.item item of_item)) first,
@@ -239,12 +239,12 @@ shows_kept l s (fault.Conflict clash item kind other other_kind location byte) y
       of_other,
       rest,
     )
-shows_kept l s (fault.Divergence item stop other other_stop) yes h = h
-shows_kept l s (fault.Bounds item kind location element) yes h = h
-shows_kept l s (fault.Unset item kind location byte) yes h = h
-shows_kept l s (fault.PrivateBounds item array element) yes h = h
-shows_kept l s (fault.UnsetVariable item variable) yes h = h
-shows_kept l s (fault.UnsetElement item array element) yes h = h
-shows_kept l s (fault.DivideByZero item) yes h = h
-shows_kept l s (fault.DivideOverflow item) yes h = h
-shows_kept l s (fault.Budget item) yes h = h
+shows_kept l s (fault.Divergence item stop other other_stop) answer h = h
+shows_kept l s (fault.Bounds item kind location element) answer h = h
+shows_kept l s (fault.Unset item kind location byte) answer h = h
+shows_kept l s (fault.PrivateBounds item array element) answer h = h
+shows_kept l s (fault.UnsetVariable item variable) answer h = h
+shows_kept l s (fault.UnsetElement item array element) answer h = h
+shows_kept l s (fault.DivideByZero item) answer h = h
+shows_kept l s (fault.DivideOverflow item) answer h = h
+shows_kept l s (fault.Budget item) answer h = h
