@@ -9,22 +9,22 @@ use Rattle.slot_pages.proofs.Changes.{put_is, read_at}
 use Rattle.slot_pages.proofs.Counts.{count_fits, counts_again, was_counted}
 use Rattle.slot_pages.proofs.open_page.OpenPage.next.Goals as goal
 
-pub index_mut-requires : goal.index_mut-requires
-index_mut-requires g c =
+pub index_mut-slot-requires : goal.index_mut-slot-requires
+index_mut-slot-requires g c =
     let page = c.self.inside in
     let many = ap length c.self.view_is in
     let below = c.requires in
     omega (arith, many, below, page.slots.ok.0)
 
-pub recount-requires-clause-counted : goal.recount-requires-clause-counted
-recount-requires-clause-counted g c =
+pub recount-self-inside-requires-clause-counted : goal.recount-self-inside-requires-clause-counted
+recount-self-inside-requires-clause-counted g c =
     let page = c.self.inside in
     let xs = page.slots.items in
     let inside : c.args.place < length xs = subst (λ (ys : List Slot). c.args.place < length ys) (sym c.self.view_is) c.requires in
     was_counted xs c.args.place c.index_mut-slot.result.now page.left c.unended-before.result c.self.invariant c.unended-before.ensures inside c.index_mut-slot.ensures.value
 
-pub recount-requires-clause-fits : goal.recount-requires-clause-fits
-recount-requires-clause-fits g c =
+pub recount-self-inside-requires-clause-fits : goal.recount-self-inside-requires-clause-fits
+recount-self-inside-requires-clause-fits g c =
     let page = c.self.inside in
     let xs = page.slots.items in
     let inside : c.args.place < length xs = subst (λ (ys : List Slot). c.args.place < length ys) (sym c.self.view_is) c.requires in
@@ -36,8 +36,8 @@ invariant_of-self g c =
     let page = c.self.inside in
     let xs = page.slots.items in
     let inside : c.args.place < length xs = subst (λ (ys : List Slot). c.args.place < length ys) (sym c.self.view_is) c.requires in
-    counts_again xs c.args.place c.index_mut-slot.result.now c.next-action.new.self page.left c.unended-before.result c.unended-after.result c.recount.result c.self.invariant
-    c.unended-before.ensures c.unended-after.ensures c.recount.ensures inside c.index_mut-slot.ensures.value
+    counts_again xs c.args.place c.index_mut-slot.result.now c.next-action.new.self page.left c.unended-before.result c.unended-after.result c.recount-self-inside.result c.self.invariant
+    c.unended-before.ensures c.unended-after.ensures c.recount-self-inside.ensures inside c.index_mut-slot.ensures.value
 
 pub returns-clause-same : goal.returns-clause-same
 returns-clause-same g c =

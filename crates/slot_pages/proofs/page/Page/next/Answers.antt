@@ -61,8 +61,8 @@ pub returns-in_default-clause-needed : goal.returns-in_default-clause-needed
 returns-in_default-clause-needed g c =
     subst IsNeeded (sym (ended_page c.make_slots.new.self c.in_ok-make_slots.ensures.made c.in_default.not-Open)) tt
 
-pub next-requires : goal.next-requires
-next-requires g c =
+pub next-action-requires : goal.next-action-requires
+next-action-requires g c =
     let size = c.args.size in
     let k = c.args.item % 256 in
     let was = sym c.make_slots.ensures.same ∙ ap (slots_in size) c.in-Open.is in

@@ -7,8 +7,8 @@ use Rattle.slot_pages.specs.Pages.{slots_of}
 use Rattle.slot_pages.proofs.Paged.{is_below, new_slot, page_changed, page_inside, page_needed, page_paged, page_sized, page_slot, page_there}
 use Rattle.slot_pages.proofs.slots.Slots.next.Goals as goal
 
-pub page_size-requires : goal.page_size-requires
-page_size-requires g c = let slots = c.self.inside in is_below slots.count c.args.item slots.pages.items c.args.self.now c.self.view_is c.requires
+pub page_size-size-requires : goal.page_size-size-requires
+page_size-size-requires g c = let slots = c.self.inside in is_below slots.count c.args.item slots.pages.items c.args.self.now c.self.view_is c.requires
 
 pub index_mut-requires : goal.index_mut-requires
 index_mut-requires g c =
