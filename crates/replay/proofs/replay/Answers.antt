@@ -38,6 +38,11 @@ of_loaded loaded = launch_of (setup_of loaded.launch.now) (bytes_in loaded.buffe
 abbrev of_starts : LoadedLaunch → ℕ → Running
 of_starts loaded = started loaded.launch.now
 
+pub play_schedule-requires : goal.play_schedule-requires
+play_schedule-requires c =
+    let l = of_loaded c.new-loaded.result in
+    (l, of_starts c.new-loaded.result, start l, c.in_ok-player.ensures)
+
 pub returns-then-not-branch : goal.returns-then-not-branch
 returns-then-not-branch c =
     let same = ap₂ (λ x b. launch_of (setup_of x) (bytes_in b)) c.new-loaded.ensures.launch c.new-loaded.ensures.buffers in

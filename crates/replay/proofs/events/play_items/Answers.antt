@@ -6,6 +6,11 @@ use Rattle.replay.specs.Told.{kept}
 use Rattle.replay.proofs.Played.{item_never, item_more}
 use Rattle.replay.proofs.events.play_items.Goals as goal
 
+pub play_item-requires : goal.play_item-requires
+play_item-requires g c =
+    let now = c.loop.invariant c.requires.0 c.requires.1 c.requires.2 c.requires.3 in
+    (c.requires.0, c.requires.1, now.0, now.2)
+
 pub returns-then-not-branch : goal.returns-then-not-branch
 returns-then-not-branch g c = λ l r s at.
     let now = c.loop.invariant l r s at in

@@ -7,6 +7,11 @@ use Rattle.replay.specs.Told.{kept}
 use Rattle.replay.proofs.Played.{run_never, run_more}
 use Rattle.replay.proofs.events.play_schedule.Goals as goal
 
+pub play_run-requires : goal.play_run-requires
+play_run-requires g c =
+    let now = c.loop-run.invariant c.requires.0 c.requires.1 c.requires.2 c.requires.3 in
+    (c.requires.0, c.requires.1, now.0, now.2)
+
 pub returns-then-not-branch : goal.returns-then-not-branch
 returns-then-not-branch g c = λ l r s at.
     let runs = c.as_slice-run-items.result.now in
