@@ -21,7 +21,9 @@ impl Told {
     {
         match fault {
             Fault::Conflict {
-                item, other_item, ..
+                item,
+                other_item,
+                ..
             } => Told::Pair(*item, *other_item),
             Fault::Divergence { .. }
             | Fault::Bounds { .. }
