@@ -9,6 +9,6 @@ pub mod Reaching
 pub mod Showing
 pub mod Telling
 pub mod Standing
-pub mod Told
+pub mod Keeping
 pub mod Spots
 mod Shown

@@ -14,7 +14,7 @@ use Rattle.spaces.specs.Buffers.{bytes_in}
 use Rattle.launches.specs.declared.loaded.LoadedLaunch.{LoadedLaunch}
 use Rattle.replay.specs.States.{IsAt}
 use Rattle.replay.specs.Told.{kept}
-use Rattle.replay.proofs.Told.{shows_kept}
+use Rattle.replay.proofs.Keeping.{shows_kept}
 use Rattle.replay.proofs.Showing.{never}
 use Rattle.replay.proofs.Reaching.{never_reaches, reaches, map_map, played, unplayed}
 use Rattle.replay.proofs.replay.Goals as goal

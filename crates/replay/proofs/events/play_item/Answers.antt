@@ -2,7 +2,7 @@ use Rattle.std.proofs.Common.{◌≡◌, sym, ◌∙◌, subst}
 use Rattle.clmodel.specs.declared.schedule.Event.TheVariants as event
 use Rattle.replay.specs.States.{IsAt, IsPlayed}
 use Rattle.replay.specs.Told.{kept}
-use Rattle.replay.proofs.Told.{never_kept, told_kept, untold_kept}
+use Rattle.replay.proofs.Keeping.{never_kept, told_kept, untold_kept}
 use Rattle.replay.proofs.events.play_item.Goals as goal
 
 pub play_item-requires : goal.play_item-requires

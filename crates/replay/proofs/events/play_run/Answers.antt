@@ -7,7 +7,7 @@ use Rattle.replay.specs.States.{IsAt}
 use Rattle.replay.specs.Played.{ArePlayed}
 use Rattle.replay.specs.Told.{kept}
 use Rattle.replay.proofs.Played.{item_events, one_played}
-use Rattle.replay.proofs.Told.{release_kept}
+use Rattle.replay.proofs.Keeping.{release_kept}
 use Rattle.replay.proofs.events.play_run.Goals as goal
 
 pub returns-in-Item : goal.returns-in-Item
