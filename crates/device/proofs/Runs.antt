@@ -12,7 +12,6 @@ use Rattle.clmodel.specs.declared.schedule.EventRun.{EventRun}
 use Rattle.launches.specs.Groups.{HasGroups}
 use Rattle.limits.specs.declared.Configuration.{Configuration}
 use Rattle.spaces.specs.Changes.{Changed}
-use Rattle.group_join.specs.Ends.{EndsAs}
 use Rattle.group_join.specs.declared.launch_end.LaunchEnd.{LaunchEnd}
 use Rattle.group_join.specs.declared.launch_end.LaunchEnd.TheVariants as canonical
 use Rattle.ordered_runs.specs.Laws.{OrderIsMet, OtherReportsStay}
@@ -22,6 +21,7 @@ use Rattle.ordered_play.specs.declared.ordered.OrderedEnd.{OrderedEnd}
 use Rattle.ordered_play.specs.declared.ordered.OrderedEnd.TheVariants as again
 use Rattle.device.specs.Ends.{EndsBy, EndsInOrder, IsReportedBy}
 use Rattle.device.specs.declared.running.RunEnd.TheVariants.{Clean, Ordered, Faulted}
+use Rattle.device.proofs.Set.{EndsSet}
 
 -- a launch in whole groups, within the limits and the budget of a device
 pub has_groups : (configuration : Configuration) (setup other : Setup) (size : ℕ) → setup ≡ other → size ≡ group_items other.range → size ≤ configuration.limits.group_items
@@ -51,18 +51,18 @@ clean_with determined complete launch events end run =
 -- ---- by the canonical run
 
 -- a canonical run without a report is of a clean launch, with `orders` and without
-pub clean_end : Determinacy → CleanIsComplete → (launch : Launch) (orders : Bool) (end : LaunchEnd) (changes : Vec Changed Global) → EndsAs launch end → end ≡ canonical.Clean changes
+pub clean_end : Determinacy → CleanIsComplete → (launch : Launch) (orders : Bool) (end : LaunchEnd) (changes cleared : Vec Changed Global) → EndsSet launch end → end ≡ canonical.Clean changes cleared
     → EndsBy orders launch (Clean changes)
-clean_end determined complete launch orders end changes h is =
-    let run : EndsAs launch (canonical.Clean changes) = subst (λ (e : LaunchEnd). EndsAs launch e) is h in
+clean_end determined complete launch orders end changes cleared h is =
+    let run : EndsSet launch (canonical.Clean changes cleared) = subst (λ (e : LaunchEnd). EndsSet launch e) is h in
     subst (λ (contents : List (List (Option ℕ))). CleanWith launch contents) run.3 (clean_with determined complete launch run.0 run.1 run.2)
 
 -- A canonical run with a report leads to a state that shows it. Without `orders`, or where the report is no conflict of
 -- kind order, the launch is answered by it.
-pub fault_end : ReportIsShown → OtherReportsStay → (launch : Launch) (orders : Bool) (end : LaunchEnd) (fault : Fault) (schedule : List EventRun) → EndsAs launch end → end ≡ canonical.Faulted fault schedule
+pub fault_end : ReportIsShown → OtherReportsStay → (launch : Launch) (orders : Bool) (end : LaunchEnd) (fault : Fault) (schedule : List EventRun) → EndsSet launch end → end ≡ canonical.Faulted fault schedule
     → (orders && is_order fault) ≡ false → EndsBy orders launch (Faulted fault schedule)
 fault_end shown stays launch orders end fault schedule h is ends =
-    let run : EndsAs launch (canonical.Faulted fault schedule) = subst (λ (e : LaunchEnd). EndsAs launch e) is h in
+    let run : EndsSet launch (canonical.Faulted fault schedule) = subst (λ (e : LaunchEnd). EndsSet launch e) is h in
     let last = shown launch run.0 run.1 fault run.2 in (
       subst (λ (events : Events). Reaches launch events fault) run.3 (run.1, last.0, last.1),
       subst (λ (events : Events). IsReportedBy orders launch events fault) run.3 (by orders run.0 run.1 run.2 ends),
@@ -74,10 +74,10 @@ fault_end shown stays launch orders end fault schedule h is ends =
     by false events state run other = (state, run)
 
 -- a canonical run that ended by order, of a launch with `orders`
-pub in_order : (launch : Launch) (orders : Bool) (end : LaunchEnd) (fault : Fault) (schedule : List EventRun) → EndsAs launch end → end ≡ canonical.Faulted fault schedule
+pub in_order : (launch : Launch) (orders : Bool) (end : LaunchEnd) (fault : Fault) (schedule : List EventRun) → EndsSet launch end → end ≡ canonical.Faulted fault schedule
     → (orders && is_order fault) ≡ true → EndsInOrder launch
 in_order launch orders end fault schedule h is both =
-    let run : EndsAs launch (canonical.Faulted fault schedule) = subst (λ (e : LaunchEnd). EndsAs launch e) is h in
+    let run : EndsSet launch (canonical.Faulted fault schedule) = subst (λ (e : LaunchEnd). EndsSet launch e) is h in
     (run.0, run.1, fault, run.2, (and_parts orders (is_order fault) both).1)
 
 -- ---- by the ordered run

@@ -8,7 +8,7 @@ use Rattle.std.proofs.lemmas.Slice.Eq.{bytes_eq-Decides}
 use Rattle.clmodel.specs.Setup.{Setup, buffer_names, names_among, same_text, with_name}
 use Rattle.clmodel.specs.declared.setup.Argument.{Argument}
 use Rattle.clmodel.specs.declared.setup.Argument.TheVariants.{Buffer, Value, Local}
-use Rattle.spaces.specs.Buffers.{bytes_in}
+use Rattle.spaces.specs.Buffers.{row_in}
 use Rattle.spaces.specs.Changes.{Changed, with_changes, all_with_changes, table_with_changes}
 use Rattle.spaces.specs.Tables.{Table, is, find, with_values}
 
@@ -86,22 +86,22 @@ found_other (e ∷ es) name other value h = go (is name e.0) refl (found_other e
         let apart : is other e.0 ≡ false = ap (is other) (sym same) ∙ turned name other h in
         ap (λ b. cond b (Some value) (find es other)) apart ∙ sym (ap (λ b. cond b (Some e.1) (find es other)) apart)
 
-others_stay : (table : Table (List ℕ)) (name value : List ℕ) (names : List (List ℕ)) → IsNew name names → map (bytes_in (set_value (is name) table value)) names ≡ map (bytes_in table) names
+others_stay : (table : Table (List ℕ)) (name value : List ℕ) (names : List (List ℕ)) → IsNew name names → map (row_in (set_value (is name) table value)) names ≡ map (row_in table) names
 others_stay table name value [] h = refl
 others_stay table name value (other ∷ names) h =
     let p = new_head name other names h in
     ap₂ (λ (x : List ℕ) xs. x ∷ xs) (ap (λ o. unwrap_or o []) (found_other table name other value p.0)) (others_stay table name value names p.1)
 
 values_set : (table : Table (List ℕ)) (names : List (List ℕ)) (changes : List Changed) → AreApart names
-    → table_with_changes table names changes ≡ with_values table names (all_with_changes (map (bytes_in table) names) changes)
+    → table_with_changes table names changes ≡ with_values table names (all_with_changes (map (row_in table) names) changes)
 values_set table [] changes a = refl
 values_set table (name ∷ names) [] a = refl
 values_set table (name ∷ names) (one ∷ changes) a =
-    let value : List ℕ = with_changes (bytes_in table name) one in
+    let value : List ℕ = with_changes (row_in table name) one in
     values_set (set_value (is name) table value) names changes a.1
     ∙ ap (λ (rows : List (List ℕ)). with_values (set_value (is name) table value) names (all_with_changes rows changes)) (others_stay table name value names a.0)
 
 -- the changes of a launch's buffers, written into them, leave each as it is with its changes
 pub changes_written : (table : Table (List ℕ)) (setup : Setup) (changes : List Changed)
-    → table_with_changes table (buffer_names setup) changes ≡ with_values table (buffer_names setup) (all_with_changes (map (bytes_in table) (buffer_names setup)) changes)
+    → table_with_changes table (buffer_names setup) changes ≡ with_values table (buffer_names setup) (all_with_changes (map (row_in table) (buffer_names setup)) changes)
 changes_written table setup changes = values_set table (buffer_names setup) changes (buffers_apart setup)

@@ -1,5 +1,5 @@
 -- How a launch ends, as it is answered (own, on OpenCL 1.2, 3.2, 3.3.1, 6.12.11).
-use Rattle.std.specs.Prelude.{◌≡◌, Bool, true, false, Some, map}
+use Rattle.std.specs.Prelude.{◌≡◌, ℕ, Bool, true, false, Option, Some, List, [], ◌∷◌, map}
 use Rattle.clmodel.specs.Launch.{Launch}
 use Rattle.clmodel.specs.Law.{CleanWith, Reaches, RunsIntoFault}
 use Rattle.clmodel.specs.Outcome.{events_of, IsMerged}
@@ -10,6 +10,11 @@ use Rattle.spaces.specs.Changes.{all_with_changes}
 use Rattle.device.specs.Machine.{IsOrderedReport, IsReported, OrderedWith}
 use Rattle.device.specs.declared.running.RunEnd.{RunEnd}
 use Rattle.device.specs.declared.running.RunEnd.TheVariants.{Clean, Ordered, Faulted}
+
+-- rows of bytes all of which are set (5.2.1)
+abbrev pub AreSet : List (List (Option ℕ)) → Type 0
+AreSet [] = Unit {0}
+AreSet (row ∷ rows) = ((bytes : List ℕ) × (map Some bytes ≡ row)) × AreSet rows
 
 -- the canonical run of a launch ends with a conflict of kind order
 abbrev pub EndsInOrder : Launch → Type 0

@@ -14,7 +14,7 @@ use Rattle.clmodel.specs.Tree.{Program, NoFunc, program}
 use Rattle.clmodel.specs.declared.setup.Argument.{Argument}
 use Rattle.clmodel.specs.declared.setup.Argument.TheVariants as argument
 use Rattle.clmodel.specs.declared.setup.Range.{Range}
-use Rattle.spaces.specs.Buffers.{bytes_in, with_bytes, repeated}
+use Rattle.spaces.specs.Buffers.{row_in, with_bytes, repeated}
 use Rattle.host_commands.specs.Builds.{Builds}
 use Rattle.host_commands.specs.Fills.{is_bad_fill}
 use Rattle.host_commands.specs.Kernels.{KernelState, names_buffer, parameters_of, with_argument, new_kernel, no_kernel, suits}
@@ -43,7 +43,7 @@ abbrev pub machine_of : Device → Machine
 machine_of device =
     record {
       configuration = device.configuration;
-      buffers = device.buffers;
+      buffers = device.buffers.bytes;
       programs = map (λ e. (e.0, program e.1.tree)) device.programs;
       kernels = map (λ e. (e.0, e.1.kernel)) device.kernels;
     }
@@ -57,7 +57,7 @@ is_used m name = is_some (find m.buffers name) || is_some (find m.programs name)
 
 -- the bytes of a buffer, none where there is no such buffer
 abbrev pub bytes_of : Machine → List ℕ → List ℕ
-bytes_of m = bytes_in m.buffers
+bytes_of m = row_in m.buffers
 
 abbrev pub no_program : Program
 no_program = record { functions = NoFunc; names = [] }

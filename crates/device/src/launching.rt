@@ -2,13 +2,11 @@
 #![tactic(auto)]
 
 ghost use Rattle.std.specs.Prelude.{◌≡◌, ℕ, Bool, List, IfOk, IfErr, None, Some};
-ghost use Rattle.clmodel.specs.Next.{launch_of};
 ghost use Rattle.clmodel.specs.declared.setup.Range.{Range as RangeOf};
 ghost use Rattle.host_commands.specs.Ranges.{IsLaunchable};
-ghost use Rattle.group_join.specs.Ends.{EndsAs};
+ghost use Rattle.group_join.specs.Ends.{EndsIn};
 ghost use Rattle.item_step.specs.Launches as launches;
 ghost use Rattle.launches.specs.Groups.{HasGroups};
-ghost use Rattle.spaces.specs.Buffers.{bytes_in};
 ghost use Rattle.spaces.specs.Tables.{with_values};
 
 use crate::Device;
@@ -20,12 +18,12 @@ use group_join::LaunchEnd;
 use host_commands::command::{Command, Refusal, Reply};
 use host_commands::ranges::{is_bad_dimension, is_bad_group, is_too_many};
 use item_step::{Launch, is_local_too_large};
-use spaces::Buffers;
+use spaces::{Buffers, Table};
 use std::alloc::{AllocError, Global};
 
 /// Puts these bytes in place of those of the buffers with these names, one after another, as far as there are both. It
 /// takes no memory.
-fn put_all(buffers: &mut Buffers, names: &[Name], contents: Vec<Bytes>)
+fn put_all(buffers: &mut Table<Bytes>, names: &[Name], contents: Vec<Bytes>)
     ensures { buffers.new ≡ with_values buffers.old names.now contents.items }
 {
     let mut contents = contents.into_iter();
@@ -113,11 +111,12 @@ impl Device {
         match end {
             RunEnd::Clean(changes) => {
                 self.buffers
+                    .bytes
                     .write_all_changes(names.as_slice(), changes.as_slice());
                 Reply::Clean
             }
             RunEnd::Ordered(contents) => {
-                put_all(&mut self.buffers, names.as_slice(), contents);
+                put_all(&mut self.buffers.bytes, names.as_slice(), contents);
                 Reply::Ordered
             }
             RunEnd::Faulted(fault, schedule) => Reply::Fault { fault, schedule },
@@ -134,7 +133,7 @@ impl Device {
         run: R,
     ) -> Result<Reply, Refusal>
         requires runs { (alloc : _) (launch : _) (buffers : _) → HasGroups (launches.setup_of launch.now) → R.pre run alloc launch buffers }
-        requires concludes { (alloc : _) (launch : _) (buffers : _) (end : _) → R.post run alloc launch buffers end → IfOk end (EndsAs (launch_of (launches.setup_of launch.now) (bytes_in buffers.now))) }
+        requires concludes { (alloc : _) (launch : _) (buffers : _) (end : _) → R.post run alloc launch buffers end → IfOk end (EndsIn (launches.setup_of launch.now) buffers.now) }
         ensures ok { IfOk result (λ reply. Answers (machine_of self.old) (Command.Launch name.now range.now orders) reply (machine_of self.new)) }
         ensures err { IfErr result (λ refusal. Step (machine_of self.old) (Command.Launch name.now range.now orders) (Reply.Refused refusal) (machine_of self.new)) }
     {

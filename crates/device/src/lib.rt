@@ -9,16 +9,14 @@
 //! refusal. Refusals are tested in their order; refusal 16 comes where memory is refused.
 #![tactic(auto)]
 
-ghost use Rattle.std.specs.Prelude.{◌≡◌, IfOk, IfErr, IfSome, Some, is_some, false, ◌≤◌, ◌<◌, ◌+◌, ◌^◌, length, nat_lt};
+ghost use Rattle.std.specs.Prelude.{◌≡◌, [], IfOk, IfErr, IfSome, Some, is_some, false, ◌≤◌, ◌<◌, ◌+◌, ◌^◌, length, nat_lt};
 ghost use Rattle.std.specs.Option.{option_map};
 ghost use Rattle.clmodel.specs.Tree.{program};
 ghost use Rattle.clmodel.specs.Typing.Sizes.{parameter_limit};
-ghost use Rattle.group_join.specs.Ends.{EndsAs};
+ghost use Rattle.group_join.specs.Ends.{EndsIn};
 ghost use Rattle.item_step.specs.Launches.{setup_of};
 ghost use Rattle.launches.specs.Groups.{HasGroups};
 ghost use Rattle.spaces.specs.Tables.{find};
-ghost use Rattle.clmodel.specs.Next.{launch_of};
-ghost use Rattle.spaces.specs.Buffers.{bytes_in};
 ghost use Rattle.device.specs.Kept.{ActsAs, AllCompiled, IsCodeOf};
 
 mod compiled;
@@ -67,6 +65,7 @@ pub struct Device {
     programs: Table<Checked>,
     kernels: Table<CompiledKernel>,
     ghost kept: { AllCompiled programs kernels },
+    ghost set: { buffers.flags ≡ [] },
 }
 
 impl Device {
@@ -85,9 +84,10 @@ impl Device {
         }
     }
 
-    /// The buffers with their bytes.
+    /// The buffers with their bytes, all of which are set.
     pub fn buffers(&self) -> &Buffers
-        ensures { result.now ≡ (machine_of self.now).buffers }
+        ensures bytes { result.now.bytes ≡ (machine_of self.now).buffers }
+        ensures set { result.now.flags ≡ [] }
     {
         &self.buffers
     }
@@ -114,7 +114,7 @@ impl Device {
     fn is_used(&self, name: &Name) -> bool
         ensures { result ≡ is_used (machine_of self.now) name.now }
     {
-        self.buffers.get(name).is_some()
+        self.buffers.bytes.get(name).is_some()
             || self.program(name).is_some()
             || self.compiled(name).is_some()
     }
@@ -150,11 +150,11 @@ impl Device {
         if size == 0 || size > self.configuration.limits.buffer_bytes {
             return Err(Refusal::BadSize);
         }
-        if self.buffers.len() >= self.configuration.limits.buffers {
+        if self.buffers.bytes.len() >= self.configuration.limits.buffers {
             return Err(Refusal::TooManyBuffers);
         }
         let bytes = Bytes::zeros(self.alloc, size as usize)?;
-        self.buffers.insert(name, bytes)?;
+        self.buffers.bytes.insert(name, bytes)?;
         Ok(Reply::Done)
     }
 
@@ -164,7 +164,7 @@ impl Device {
         ensures ok { IfOk result (λ reply. Answers (machine_of self.old) (Command.Write name.now offset bytes.now) reply (machine_of self.new)) }
         ensures err { IfErr result (λ refusal. Step (machine_of self.old) (Command.Write name.now offset bytes.now) (Reply.Refused refusal) (machine_of self.new)) }
     {
-        let Some(buffer) = self.buffers.get(name) else {
+        let Some(buffer) = self.buffers.bytes.get(name) else {
             return Err(Refusal::NoSuchName);
         };
         if bytes.is_empty() {
@@ -173,7 +173,9 @@ impl Device {
         if bytes.len() > buffer.len() || offset > (buffer.len() - bytes.len()) as u64 {
             return Err(Refusal::OutOfRange);
         }
-        self.buffers.write(name, offset as usize, bytes.as_slice());
+        self.buffers
+            .bytes
+            .write(name, offset as usize, bytes.as_slice());
         Ok(Reply::Done)
     }
 
@@ -189,7 +191,7 @@ impl Device {
         ensures ok { IfOk result (λ reply. Answers (machine_of self.old) (Command.Fill name.now offset count pattern.now) reply (machine_of self.new)) }
         ensures err { IfErr result (λ refusal. Step (machine_of self.old) (Command.Fill name.now offset count pattern.now) (Reply.Refused refusal) (machine_of self.new)) }
     {
-        let Some(buffer) = self.buffers.get(name) else {
+        let Some(buffer) = self.buffers.bytes.get(name) else {
             return Err(Refusal::NoSuchName);
         };
         if is_bad_fill(offset, count, pattern.as_slice()) {
@@ -200,6 +202,7 @@ impl Device {
         }
         let pattern = pattern.as_slice();
         self.buffers
+            .bytes
             .fill(name, offset as usize, count as usize, pattern);
         Ok(Reply::Done)
     }
@@ -217,10 +220,10 @@ impl Device {
         ensures ok { IfOk result (λ reply. Answers (machine_of self.old) (Command.Copy source.now offset target.now target_offset count) reply (machine_of self.new)) }
         ensures err { IfErr result (λ refusal. Step (machine_of self.old) (Command.Copy source.now offset target.now target_offset count) (Reply.Refused refusal) (machine_of self.new)) }
     {
-        let Some(from) = self.buffers.get(source) else {
+        let Some(from) = self.buffers.bytes.get(source) else {
             return Err(Refusal::NoSuchName);
         };
-        let Some(to) = self.buffers.get(target) else {
+        let Some(to) = self.buffers.bytes.get(target) else {
             return Err(Refusal::NoSuchName);
         };
         if count == 0 {
@@ -234,6 +237,7 @@ impl Device {
         }
         let (at, target_at) = (offset as usize, target_offset as usize);
         self.buffers
+            .bytes
             .copy(self.alloc, source, at, target, target_at, count as usize)?;
         Ok(Reply::Done)
     }
@@ -244,7 +248,7 @@ impl Device {
         ensures ok { IfOk result (λ reply. Answers (machine_of self.now) (Command.Read name.now offset count) reply (machine_of self.now)) }
         ensures err { IfErr result (λ refusal. Step (machine_of self.now) (Command.Read name.now offset count) (Reply.Refused refusal) (machine_of self.now)) }
     {
-        let Some(buffer) = self.buffers.get(name) else {
+        let Some(buffer) = self.buffers.bytes.get(name) else {
             return Err(Refusal::NoSuchName);
         };
         if count == 0 {
@@ -277,7 +281,7 @@ impl Device {
     fn is_in_use(&self, name: &Name) -> bool
         ensures { result ≡ is_in_use (machine_of self.now) name.now }
     {
-        (self.buffers.get(name).is_some() && self.is_argument(name))
+        (self.buffers.bytes.get(name).is_some() && self.is_argument(name))
             || (self.program(name).is_some() && self.has_kernels(name))
     }
 
@@ -292,7 +296,7 @@ impl Device {
         if self.is_in_use(name) {
             return Err(Refusal::InUse);
         }
-        self.buffers.remove(name);
+        self.buffers.bytes.remove(name);
         self.programs.remove(name);
         self.kernels.remove(name);
         Ok(Reply::Done)
@@ -371,7 +375,7 @@ impl Device {
         ensures { result ≡ is_there (machine_of self.now) argument.now }
     {
         match argument {
-            Argument::Buffer(name) => self.buffers.get(name).is_some(),
+            Argument::Buffer(name) => self.buffers.bytes.get(name).is_some(),
             Argument::Value(_) | Argument::Local(_) => true,
         }
     }
@@ -383,7 +387,7 @@ impl Device {
         run: R,
     ) -> Result<Reply, Refusal>
         requires runs { (alloc : _) (launch : _) (buffers : _) → HasGroups (setup_of launch.now) → R.pre run alloc launch buffers }
-        requires concludes { (alloc : _) (launch : _) (buffers : _) (end : _) → R.post run alloc launch buffers end → IfOk end (EndsAs (launch_of (setup_of launch.now) (bytes_in buffers.now))) }
+        requires concludes { (alloc : _) (launch : _) (buffers : _) (end : _) → R.post run alloc launch buffers end → IfOk end (EndsIn (setup_of launch.now) buffers.now) }
         ensures ok { IfOk result (λ reply. Answers (machine_of self.old) command reply (machine_of self.new)) }
         ensures err { IfErr result (λ refusal. Step (machine_of self.old) command (Reply.Refused refusal) (machine_of self.new)) }
     {
@@ -439,7 +443,7 @@ impl Device {
         run: R,
     ) -> Reply
         requires runs { (alloc : _) (launch : _) (buffers : _) → HasGroups (setup_of launch.now) → R.pre run alloc launch buffers }
-        requires concludes { (alloc : _) (launch : _) (buffers : _) (end : _) → R.post run alloc launch buffers end → IfOk end (EndsAs (launch_of (setup_of launch.now) (bytes_in buffers.now))) }
+        requires concludes { (alloc : _) (launch : _) (buffers : _) (end : _) → R.post run alloc launch buffers end → IfOk end (EndsIn (setup_of launch.now) buffers.now) }
         ensures { Step (machine_of self.old) command result (machine_of self.new) }
     {
         match self.perform(command, run) {

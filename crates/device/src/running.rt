@@ -2,14 +2,14 @@
 //! 3.3.1 and 6.12.11).
 #![tactic(auto)]
 
-ghost use Rattle.std.specs.Prelude.{◌≡◌, ◌&&◌, true, IfOk, Some, map};
+ghost use Rattle.std.specs.Prelude.{◌≡◌, ◌&&◌, true, [], IfOk, Some, map};
 ghost use Rattle.clmodel.specs.Next.{launch_of};
 ghost use Rattle.item_step.specs.Launches.{setup_of};
 ghost use Rattle.launches.specs.Groups.{HasGroups};
-ghost use Rattle.group_join.specs.Ends.{EndsAs};
+ghost use Rattle.group_join.specs.Ends.{EndsIn};
 ghost use Rattle.ordered_runs.specs.Ordered.{is_order};
-ghost use Rattle.spaces.specs.Buffers.{bytes_in};
-ghost use Rattle.device.specs.Ends.{EndsBy, EndsInOrder};
+ghost use Rattle.spaces.specs.Buffers.{row_in};
+ghost use Rattle.device.specs.Ends.{AreSet, EndsBy, EndsInOrder};
 
 use clmodel::access::Clash;
 use clmodel::determinacy::{clean_is_complete, determinacy};
@@ -21,7 +21,7 @@ use group_join::LaunchEnd;
 use item_step::Launch;
 use ordered_play::{OrderedEnd, run_ordered};
 use ordered_runs::laws::{order_is_met, other_reports_stay};
-use spaces::{Buffers, Changes, Plain};
+use spaces::{BufferMem, Buffers, Changes};
 use std::alloc::{AllocError, Global};
 
 /// How a launch ends, as it is answered. The launch's buffers are as they were.
@@ -68,13 +68,14 @@ fn runs_again(orders: bool, fault: &Fault) -> bool
     orders && is_order(fault)
 }
 
-/// The bytes that spaces hold, in their order. An error is out of memory.
-fn contents_of(alloc: Global, spaces: Vec<Plain>) -> Result<Vec<Bytes>, AllocError>
+/// The bytes that spaces hold, in their order, all of which are set. An error is out of memory.
+fn contents_of(alloc: Global, spaces: Vec<BufferMem>) -> Result<Vec<Bytes>, AllocError>
+    requires { AreSet spaces.items }
     ensures { IfOk result (λ contents. map (λ bytes. map Some bytes) contents.items ≡ spaces.items) }
 {
     let mut contents = Vec::new(alloc);
     for space in spaces {
-        contents.push(Bytes::new(space.into_bytes()))?;
+        contents.push(space.into_contents(alloc)?.bytes)?;
     }
     Ok(contents)
 }
@@ -83,8 +84,9 @@ fn contents_of(alloc: Global, spaces: Vec<Plain>) -> Result<Vec<Bytes>, AllocErr
 /// they were for that run. An error is out of memory.
 fn run_again(alloc: Global, launch: &Launch<'_>, buffers: &Buffers) -> Result<RunEnd, AllocError>
     requires whole { HasGroups (setup_of launch.now) }
-    requires order { EndsInOrder (launch_of (setup_of launch.now) (bytes_in buffers.now)) }
-    ensures { IfOk result (EndsBy true (launch_of (setup_of launch.now) (bytes_in buffers.now))) }
+    requires set { buffers.now.flags ≡ [] }
+    requires order { EndsInOrder (launch_of (setup_of launch.now) (row_in buffers.now.bytes)) }
+    ensures { IfOk result (EndsBy true (launch_of (setup_of launch.now) (row_in buffers.now.bytes))) }
 {
     order_is_met();
     match run_ordered(alloc, launch, buffers)? {
@@ -103,16 +105,17 @@ pub(crate) fn run_to_end<R: FnOnce(Global, &Launch<'_>, &Buffers) -> Result<Laun
     run: R,
 ) -> Result<RunEnd, AllocError>
     requires whole { HasGroups (setup_of launch.now) }
+    requires set { buffers.now.flags ≡ [] }
     requires runs { (alloc : _) (launch : _) (buffers : _) → HasGroups (setup_of launch.now) → R.pre run alloc launch buffers }
-    requires concludes { (alloc : _) (launch : _) (buffers : _) (end : _) → R.post run alloc launch buffers end → IfOk end (EndsAs (launch_of (setup_of launch.now) (bytes_in buffers.now))) }
-    ensures { IfOk result (EndsBy orders (launch_of (setup_of launch.now) (bytes_in buffers.now))) }
+    requires concludes { (alloc : _) (launch : _) (buffers : _) (end : _) → R.post run alloc launch buffers end → IfOk end (EndsIn (setup_of launch.now) buffers.now) }
+    ensures { IfOk result (EndsBy orders (launch_of (setup_of launch.now) (row_in buffers.now.bytes))) }
 {
     determinacy();
     clean_is_complete();
     report_is_shown();
     other_reports_stay();
     match run(alloc, launch, buffers)? {
-        LaunchEnd::Clean(changes) => Ok(RunEnd::Clean(changes)),
+        LaunchEnd::Clean(changes, _) => Ok(RunEnd::Clean(changes)),
         LaunchEnd::Faulted(fault, schedule) => {
             if runs_again(orders, &fault) {
                 run_again(alloc, launch, buffers)

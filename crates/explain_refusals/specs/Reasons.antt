@@ -20,7 +20,7 @@ use Rattle.host_commands.specs.Fills.{is_pattern_size}
 use Rattle.host_commands.specs.declared.command.Command.{Command}
 use Rattle.host_commands.specs.declared.command.Command.TheVariants as command
 use Rattle.limits.specs.declared.Limits.{Limits}
-use Rattle.spaces.specs.Buffers.{bytes_in}
+use Rattle.spaces.specs.Buffers.{row_in}
 use Rattle.spaces.specs.Tables.{Table, find}
 
 -- a name as text
@@ -37,7 +37,7 @@ IsRange _ name offset count = ⊥
 
 -- the end of a buffer lies before that of a range
 abbrev pub Passes : Table (List ℕ) → List ℕ → ℕ → ℕ → ℕ → Type 0
-Passes buffers name offset count bytes = (bytes ≡ length (bytes_in buffers name)) × (bytes < offset + count)
+Passes buffers name offset count bytes = (bytes ≡ length (row_in buffers name)) × (bytes < offset + count)
 
 -- a command names a buffer
 abbrev pub NamesBuffer : Command → List ℕ → Type 0

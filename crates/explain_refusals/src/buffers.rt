@@ -55,7 +55,7 @@ pub(crate) fn outside(
 ) -> Result<Option<Found>, AllocError>
     ensures { (c : CommandOf) → IsRange c name.now offset count → IfOk result (HoldsOf refusing.now c) }
 {
-    let bytes = refusing.buffers.bytes_in(name).len() as u64;
+    let bytes = refusing.buffers.row_in(name).len() as u64;
     if count <= bytes && offset <= bytes - count {
         return Ok(None);
     }

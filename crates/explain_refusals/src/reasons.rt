@@ -11,12 +11,12 @@ use crate::copies::{Copied, copy_reason};
 use crate::launches::launch_reason;
 use crate::names::{Made, names_there, text_of, told_name, told_names, told_of};
 use crate::trees::kernels_of;
-use clmodel::text::Name;
+use clmodel::text::{Bytes, Name};
 use host_commands::command::{Command, Refusal};
 use limits::Limits;
 use refused_commands::{MadeName, NameKind, RefusalReason};
 use simfile::script::CommandPlace;
-use spaces::Buffers;
+use spaces::Table;
 use std::alloc::{AllocError, Global};
 
 /// What is known where a command is refused: the limits and the buffers of the device, and the commands before it,
@@ -25,7 +25,7 @@ use std::alloc::{AllocError, Global};
 pub struct Refusing<'a> {
     pub alloc: Global,
     pub limits: Limits,
-    pub buffers: &'a Buffers,
+    pub buffers: &'a Table<Bytes>,
     pub before: &'a [Command],
     pub places: &'a [CommandPlace],
 }

@@ -75,7 +75,7 @@ fn reason_at(
     let refusing = Refusing {
         alloc,
         limits: performed.options.configuration.limits,
-        buffers: device.buffers(),
+        buffers: &device.buffers().bytes,
         before: done.commands.as_slice(),
         places: done.places.as_slice(),
     };

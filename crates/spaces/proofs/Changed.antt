@@ -224,3 +224,11 @@ either_done names changes place h = go (cases_lt place names)
     go : (place < names) ⊎ (names ≤ place) → (names ≤ place) ⊎ (changes ≤ place)
     go (inl a) = inr (omega (arith, a, h))
     go (inr a) = inl a
+
+pub any_done : (names changes others place : ℕ) → min (min names changes) others ≤ place → (names ≤ place) ⊎ ((changes ≤ place) ⊎ (others ≤ place))
+any_done names changes others place h = go (cases_lt place names) (cases_lt place changes)
+  where
+    go : (place < names) ⊎ (names ≤ place) → (place < changes) ⊎ (changes ≤ place) → (names ≤ place) ⊎ ((changes ≤ place) ⊎ (others ≤ place))
+    go (inr a) b = inl a
+    go (inl a) (inr b) = inr (inl b)
+    go (inl a) (inl b) = inr (inr (omega (arith, a, b, h)))

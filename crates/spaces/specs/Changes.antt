@@ -2,7 +2,7 @@
 use Rattle.std.specs.Prelude.{ℕ, List, [], ◌∷◌, length, map}
 use Rattle.std.specs.List.{range_with_len}
 use Rattle.std.specs.Map.{set_value}
-use Rattle.spaces.specs.Buffers.{bytes_in}
+use Rattle.spaces.specs.Buffers.{row_in}
 use Rattle.spaces.specs.Overlay.{PageCounts, copies, overlaid_byte}
 use Rattle.spaces.specs.Tables.{Table, is}
 
@@ -26,4 +26,4 @@ abbrev pub table_with_changes : Table (List ℕ) → List (List ℕ) → List Ch
 table_with_changes table [] changes = table
 table_with_changes table (name ∷ names) [] = table
 table_with_changes table (name ∷ names) (one ∷ changes) =
-    table_with_changes (set_value (is name) table (with_changes (bytes_in table name) one)) names changes
+    table_with_changes (set_value (is name) table (with_changes (row_in table name) one)) names changes

@@ -3,7 +3,7 @@
 ghost use Rattle.std.specs.Prelude.{◌≡◌, ◌+◌, ◌*◌, ◌<◌, ◌≤◌, ◌^◌, ℕ, List, Some, length, map, slice_get, IfOk, OnOk, OnErr};
 ghost use Rattle.std.specs.Map.{set_value};
 ghost use Rattle.clmodel.specs.Cells.{byte_count, cells_of, number, written};
-ghost use Rattle.spaces.specs.Buffers.{bytes_in};
+ghost use Rattle.spaces.specs.Buffers.{row_in};
 ghost use Rattle.spaces.specs.Changes.{with_changes, table_with_changes};
 ghost use Rattle.spaces.specs.Tables.{is};
 
@@ -88,7 +88,7 @@ impl Table<Bytes> {
     /// Makes changes in the buffer of a name, if there is one.
     #[tactic(auto, using(crate::proofs::Tables::unreplaced))]
     fn write_changes(&mut self, name: &Name, changes: &Changes)
-        ensures { self.new ≡ set_value (is name.now) self.old (with_changes (bytes_in self.old name.now) changes.now) }
+        ensures { self.new ≡ set_value (is name.now) self.old (with_changes (row_in self.old name.now) changes.now) }
     {
         if let Some(buffer) = self.get_mut(name) {
             changes.write_into(buffer);

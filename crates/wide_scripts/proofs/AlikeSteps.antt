@@ -16,7 +16,7 @@ use Rattle.clmodel.specs.Tree.{Program}
 use Rattle.clmodel.specs.declared.setup.Argument.{Argument}
 use Rattle.clmodel.specs.declared.setup.Argument.TheVariants as argument
 use Rattle.clmodel.specs.declared.setup.Range.{Range}
-use Rattle.spaces.specs.Buffers.{bytes_in, with_bytes, repeated}
+use Rattle.spaces.specs.Buffers.{row_in, with_bytes, repeated}
 use Rattle.spaces.specs.Tables.{Table, is, find, with_values}
 use Rattle.host_commands.specs.Builds.{Builds}
 use Rattle.host_commands.specs.Fills.{is_pattern_size}
@@ -187,11 +187,11 @@ module _ (taint after : Taint) (free differs : Bool) (m : Machine) (buffers : Ta
   there : (name : List ℕ) → is_some (find buffers name) ≡ is_some (find m.buffers name)
   there name = sym (both_found taint m.buffers buffers name h)
 
-  holds : (name : List ℕ) → AlikeBytes (taint name) (bytes_of m name) (bytes_in buffers name)
+  holds : (name : List ℕ) → AlikeBytes (taint name) (bytes_of m name) (row_in buffers name)
   holds name = both_hold taint m.buffers buffers name h
 
-  long : (name : List ℕ) → length (bytes_in buffers name) ≡ length (bytes_of m name)
-  long name = sym (as_long (taint name) (bytes_of m name) (bytes_in buffers name) (holds name))
+  long : (name : List ℕ) → length (row_in buffers name) ≡ length (bytes_of m name)
+  long name = sym (as_long (taint name) (bytes_of m name) (row_in buffers name) (holds name))
 
   used : (name : List ℕ) → is_used (with_buffers m buffers) name ≡ is_used m name
   used name = ap (λ b. b || is_some (find m.programs name) || is_some (find m.kernels name)) (there name)
@@ -245,14 +245,14 @@ module _ (taint after : Taint) (free differs : Bool) (m : Machine) (buffers : Ta
   put_step : (name : List ℕ) (marked : Bool) → ((x : List ℕ) → ((marked && is name x) || taint x) ≡ true → after x ≡ true) → (c d : Command) (r : Reply) (new : Machine) (at : ℕ) (xs ys : List ℕ)
       → AlikeBytes marked xs ys → first (row (with_buffers m buffers) d) ≡ first (row m c)
       → (Does m c r new → (r ≡ reply.Done) × (new ≡ with_buffers m (set_value (is name) m.buffers (with_bytes (bytes_of m name) at xs))))
-      → ((left : Table (List ℕ)) → left ≡ set_value (is name) buffers (with_bytes (bytes_in buffers name) at ys) → Does (with_buffers m buffers) d reply.Done (with_buffers m left))
+      → ((left : Table (List ℕ)) → left ≡ set_value (is name) buffers (with_bytes (row_in buffers name) at ys) → Does (with_buffers m buffers) d reply.Done (with_buffers m left))
       → Answers m c r new → ∥ AnswersAlike after differs m buffers d r new ∥₁
   put_step name marked includes c d r new at xs ys alike rows was does =
       answered_more more c d r new rows
       (λ did. ∣ done after differs m buffers d r new (with_buffers m (set_value (is name) m.buffers (with_bytes (bytes_of m name) at xs)))
-      (set_value (is name) buffers (with_bytes (bytes_in buffers name) at ys)) (was did).0 (was did).1 (does _ refl)
-      (both_set after m.buffers buffers name (with_bytes (bytes_of m name) at xs) (with_bytes (bytes_in buffers name) at ys) (kept more)
-      (put_into (taint name) marked (after name) (bytes_of m name) (bytes_in buffers name) xs ys at (more name) put (holds name) alike)) ∣₁)
+      (set_value (is name) buffers (with_bytes (row_in buffers name) at ys)) (was did).0 (was did).1 (does _ refl)
+      (both_set after m.buffers buffers name (with_bytes (bytes_of m name) at xs) (with_bytes (row_in buffers name) at ys) (kept more)
+      (put_into (taint name) marked (after name) (bytes_of m name) (row_in buffers name) xs ys at (more name) put (holds name) alike)) ∣₁)
     where
       more : Includes after taint
       more x t = includes x (or_right (marked && is name x) (taint x) t)
@@ -280,9 +280,9 @@ module _ (taint after : Taint) (free differs : Bool) (m : Machine) (buffers : Ta
       → Answers m (command.Copy source at target to count) r new → ∥ AnswersAlike after differs m buffers (command.Copy source at target to count) r new ∥₁
   copy_step source target at to count r new n noted includes =
       put_step target (taint source) (noted_as taint after free n (note.Copied source target) noted includes) (command.Copy source at target to count) (command.Copy source at target to count) r new to
-      (take count (drop at (bytes_of m source))) (take count (drop at (bytes_in buffers source)))
-      (part (taint source) (bytes_of m source) (bytes_in buffers source) at count (holds source))
-      (ap₂ (λ b k. copy_row b (is_some (find buffers target)) k (length (bytes_in buffers target)) at to count (is source target && do_overlap at to count)) (there source) (long source)
+      (take count (drop at (bytes_of m source))) (take count (drop at (row_in buffers source)))
+      (part (taint source) (bytes_of m source) (row_in buffers source) at count (holds source))
+      (ap₂ (λ b k. copy_row b (is_some (find buffers target)) k (length (row_in buffers target)) at to count (is source target && do_overlap at to count)) (there source) (long source)
       ∙ ap₂ (λ b k. copy_row (is_some (find m.buffers source)) b (length (bytes_of m source)) k at to count (is source target && do_overlap at to count)) (there target) (long target))
       (λ did. did) (λ left is_left. (refl, ap (with_buffers m) is_left))
 
@@ -292,14 +292,14 @@ module _ (taint after : Taint) (free differs : Bool) (m : Machine) (buffers : Ta
       answered_more more (command.Read name at count) (command.Read name at count) r new
       (ap₂ (λ b k. first ((not b, NoSuchName) ∷ (count == 0, BadSize) ∷ (nat_lt k (at + count), OutOfRange) ∷ [])) (there name) (long name))
       (λ did. ∣ record {
-        reply = reply.Data (take count (drop at (bytes_in buffers name)));
+        reply = reply.Data (take count (drop at (row_in buffers name)));
         left = buffers;
         does = (refl, ap (λ x. with_buffers x buffers) did.1);
         alike = subst (λ (x : Machine). AlikeTables after x.buffers buffers) (sym did.1) (kept more);
         same =
-            subst (λ s. AlikeReply differs s (reply.Data (take count (drop at (bytes_in buffers name))))) (sym did.0)
-            (weaker (taint name) differs (take count (drop at (bytes_of m name))) (take count (drop at (bytes_in buffers name))) (λ t. read (ap (may_read taint) noted ∙ t))
-            (part (taint name) (bytes_of m name) (bytes_in buffers name) at count (holds name)));
+            subst (λ s. AlikeReply differs s (reply.Data (take count (drop at (row_in buffers name))))) (sym did.0)
+            (weaker (taint name) differs (take count (drop at (bytes_of m name))) (take count (drop at (row_in buffers name))) (λ t. read (ap (may_read taint) noted ∙ t))
+            (part (taint name) (bytes_of m name) (row_in buffers name) at count (holds name)));
       } ∣₁)
     where
       more : Includes after taint
@@ -383,7 +383,7 @@ module _ (taint after : Taint) (free differs : Bool) (m : Machine) (buffers : Ta
         alike =
             subst (λ (x : Machine). AlikeTables after x.buffers left) (sym l.2)
             (both_with_values after m.buffers buffers (buffer_names setup) l.0 c.1.0 (kept more)
-            (as_many_left setup (bytes_of m) l.0 l.1 ∙ sym (as_many_left setup (bytes_in buffers) c.1.0 c.1.1))
+            (as_many_left setup (bytes_of m) l.0 l.1 ∙ sym (as_many_left setup (row_in buffers) c.1.0 c.1.1))
             (λ number name is_name. weaker (is_free_at flags number) (after name) (slice_index_or l.0 number []) (slice_index_or c.1.0 number []) (marks number name is_name) (c.2 number)));
         same = refl;
       }
@@ -396,7 +396,7 @@ module _ (taint after : Taint) (free differs : Bool) (m : Machine) (buffers : Ta
 
   -- what a launch with `orders` leaves on the same bytes
   launched_ordered : (kernel : List ℕ) (range : Range) → Includes after taint
-      → launch_of (setup_of m (kernel_of m kernel) range) (bytes_of m) ≡ launch_of (setup_of m (kernel_of m kernel) range) (bytes_in buffers)
+      → launch_of (setup_of m (kernel_of m kernel) range) (bytes_of m) ≡ launch_of (setup_of m (kernel_of m kernel) range) (row_in buffers)
       → (r : Reply) (new : Machine) → LaunchesOrdered m (setup_of m (kernel_of m kernel) range) r new → DoesAlike after differs m buffers (command.Launch kernel range true) r new
   launched_ordered kernel range more same reply.Done new l = absurd l
   launched_ordered kernel range more same (reply.Data xs) new l = absurd l
@@ -470,13 +470,13 @@ module _ (taint after : Taint) (free differs : Bool) (m : Machine) (buffers : Ta
       by false none l =
           ∣ launched kernel range [] more (λ number name is_name freed. absurd (false≢true freed))
           (same_launch m (with_buffers m buffers) setup
-          (λ number name is_name. subst (λ b. AlikeBytes b (bytes_of m name) (bytes_in buffers name)) (none_marked taint names number name none (among number name is_name)) (holds name)))
+          (λ number name is_name. subst (λ b. AlikeBytes b (bytes_of m name) (row_in buffers name)) (none_marked taint names number name none (among number name is_name)) (holds name)))
           r new l ∣₁
       by true some l =
           ∥∥₁_map
           (noted.4 (with_buffers m buffers) setup.arguments (same_arguments noted.1.arguments.items setup.arguments)
           (λ number name is_name.
-          weaker (taint name) (is_free_at flags number) (bytes_of m name) (bytes_in buffers name)
+          weaker (taint name) (is_free_at flags number) (bytes_of m name) (row_in buffers name)
           (free_there taint names flags number name (sym (ap (may_pass taint) noted.2) ∙ pass) (among number name is_name)) (holds name)))
           (λ same.
           launched kernel range flags more
@@ -508,9 +508,9 @@ module _ (taint after : Taint) (free differs : Bool) (m : Machine) (buffers : Ta
       closed : are_free taint names [] ≡ true
       closed = subst (λ free. are_free taint names free ≡ true) noted.4 (sym (ap (may_pass taint) noted.2) ∙ pass)
 
-      same : (number : ℕ) (name : List ℕ) → slice_get (buffer_names setup) number ≡ Some name → bytes_of m name ≡ bytes_in buffers name
+      same : (number : ℕ) (name : List ℕ) → slice_get (buffer_names setup) number ≡ Some name → bytes_of m name ≡ row_in buffers name
       same number name is_name =
-          weaker (taint name) false (bytes_of m name) (bytes_in buffers name)
+          weaker (taint name) false (bytes_of m name) (row_in buffers name)
           (free_there taint names [] number name closed (ap (λ ns. slice_get ns number) noted.3 ∙ is_name)) (holds name)
 
   launch_step : (kernel : List ℕ) (range : Range) (orders : Bool) (r : Reply) (new : Machine) (n : Note) → IsNoted m (command.Launch kernel range orders) r n → may_pass taint n ≡ true

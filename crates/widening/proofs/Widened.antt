@@ -226,6 +226,7 @@ module _ (code : Listing) (setup : Setup) (buffers locals arrays arguments : Lis
             items = item_count setup.range;
             group_size = group_items setup.range;
             buffers = map other names;
+            unset = λ number byte. false;
             local_sizes = map (λ o. o.size) objects;
             next = next (over ys);
             buffer_names = names;
