@@ -397,13 +397,13 @@ stop_stored l g part f item stop a u below own over all = by_lower (wrote a.log 
     by_lower false w = absurd (both_ways _ unset.0 (ap is_set (sym (over.kept p stop.byte w)) ∙ set))
 
 -- so the access has a conflict with it
-pub stop_met : (l : Launch) (g : ℕ) (part : Part) (f : Fault) (item : ℕ) (stop : UnsetStop (plan_of l g) part.end f item) (a : State) → Ready l g a
-    → (y : StoreAt a.log (region_for l item stop.object) stop.byte) → conflict l y.0 (at_stop l g part f item stop) stop.byte ≡ None → ⊥
-stop_met l g part f item stop a ready y none =
+pub stop_met : (l : Launch) (g : ℕ) (part : Part) (f : Fault) (item : ℕ) (stop : UnsetStop (plan_of l g) part.end f item) (log : List Access) → ((z : Access) → Logged log z → group_of l z.item ≡ g → ⊥)
+    → (y : StoreAt log (region_for l item stop.object) stop.byte) → conflict l y.0 (at_stop l g part f item stop) stop.byte ≡ None → ⊥
+stop_met l g part f item stop log apart y none =
     ⊎_elim
     (λ s. reads_not_store stop.op stop.reading s.2)
     (λ c. store_left (kind_of stop.op) (subst (λ k. clash k (kind_of stop.op) ≡ None) y.2 c))
-    (meet l (at_stop l g part f item stop) y.0 p stop.byte (λ e. other_group g (group_of l y.0.item) (group_of l item) (ready.lower y.0 y.1).0 stop.mine e) y.3
+    (meet l (at_stop l g part f item stop) y.0 p stop.byte (λ e. apart y.0 y.1 (e ∙ stop.mine)) y.3
     (and_from (same_region p p) (covers stop.first (size_of stop.op) stop.byte) (same_region_self p) (covers_from stop.first (size_of stop.op) stop.byte unset.1 unset.2))
     none)
   where
@@ -413,11 +413,18 @@ stop_met l g part f item stop a ready y none =
     unset : (is_set (part.end.memory p stop.byte) ≡ false) × (stop.first ≤ stop.byte) × (stop.byte < stop.first + size_of stop.op)
     unset = unset_some (part.end.memory p) stop.first (size_of stop.op) stop.byte stop.unset
 
-stop_crosses : (l : Launch) (g : ℕ) (part : Part) (f : Fault) (item : ℕ) (stop : UnsetStop (plan_of l g) part.end f item) (a : State) → Ready l g a
-    → StoreAt a.log (region_for l item stop.object) stop.byte → newest_conflict l (at_stop l g part f item stop ∷ (part.end.log ++ a.log)) ≡ None → ⊥
-stop_crosses l g part f item stop a ready y none =
-    stop_met l g part f item stop a ready y
-    (no_newest l (at_stop l g part f item stop) (part.end.log ++ a.log) none y.0 (logged_back part.end.log a.log y.0 y.1) stop.byte)
+pub stop_crosses : (l : Launch) (g : ℕ) (part : Part) (f : Fault) (item : ℕ) (stop : UnsetStop (plan_of l g) part.end f item) (log : List Access) → ((z : Access) → Logged log z → group_of l z.item ≡ g → ⊥)
+    → StoreAt log (region_for l item stop.object) stop.byte → newest_conflict l (at_stop l g part f item stop ∷ (part.end.log ++ log)) ≡ None → ⊥
+stop_crosses l g part f item stop log apart y none =
+    stop_met l g part f item stop log apart y
+    (no_newest l (at_stop l g part f item stop) (part.end.log ++ log) none y.0 (logged_back part.end.log log y.0 y.1) stop.byte)
+
+-- the groups below are others
+below_other : (g h : ℕ) → h < g → h ≡ g → ⊥
+below_other g h k e = omega arith
+
+pub ready_apart : (l : Launch) (g : ℕ) (a : State) → Ready l g a → (z : Access) → Logged a.log z → group_of l z.item ≡ g → ⊥
+ready_apart l g a ready z there e = below_other g (group_of l z.item) (ready.lower z there).0 e
 
 -- where its bytes are set after the groups below, it makes the access
 one_made : (l : Launch) (g : ℕ) → IsGroup (plan_of l g) → (lower : Joined) (part : Part) (far : So_far l g lower) → IsPart l g part → (t : Through l g far.a far.a part.events part.end)
@@ -462,7 +469,7 @@ one_made l g whole lower part far is t f item stop all = by_newest (newest_confl
     by_newest : (o : Option conflict_type.Conflict) → newest_conflict l (x ∷ (part.end.log ++ lower.log)) ≡ o
         → OneMore l g part (join_made l lower part x) (option_map (conflict_fault l) (newest_conflict l (x ∷ (part.end.log ++ lower.log))))
     by_newest None q =
-        absurd (stop_crosses l g part f item stop far.a far.ready stored (ap (λ z. newest_conflict l (x ∷ (part.end.log ++ z))) (sym far.log) ∙ q))
+        absurd (stop_crosses l g part f item stop far.a.log (ready_apart l g far.a far.ready) stored (ap (λ z. newest_conflict l (x ∷ (part.end.log ++ z))) (sym far.log) ∙ q))
     by_newest (Some c) q =
         subst (OneMore l g part (join_made l lower part x)) (sym (ap (option_map (conflict_fault l)) q))
         (m.0, (runs, newest_reports l m.0 c (ap (newest_conflict l) (log ∙ ap (λ z. x ∷ (part.end.log ++ z)) (sym far.log)) ∙ q)))

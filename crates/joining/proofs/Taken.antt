@@ -21,7 +21,7 @@ use Rattle.joining.specs.Steps.{HasGroup, IsJoined, TakenCrosses}
 use Rattle.joining.proofs.Again.{UnsetStop, unset_stop}
 use Rattle.joining.proofs.Begun.{StoreAt, begun_start, begun_to, begun_in}
 use Rattle.joining.proofs.JoinedBytes.{through}
-use Rattle.joining.proofs.Joins.{So_far, stop_asked, at_stop, there_unset, stop_stored, stop_met}
+use Rattle.joining.proofs.Joins.{So_far, stop_asked, at_stop, there_unset, stop_stored, stop_met, ready_apart}
 use Rattle.joining.proofs.Ride.{Through}
 use Rattle.joining.proofs.Steps.{so_far}
 
@@ -80,7 +80,7 @@ taken l g lower part grouped joined there is none f item stop e k all = (cross, 
 
     meets : (o : Option conflict_type.Conflict) → conflict_from (conflict l) x lower.log x.first (byte_count x.width) ≡ o → option_map (λ _. x ∷ part.end.log) o ≡ Some (x ∷ part.end.log)
     meets None q =
-        absurd (stop_met l g part f item stop far.a far.ready stored
+        absurd (stop_met l g part f item stop far.a.log (ready_apart l g far.a far.ready) stored
         (no_newest l x far.a.log (ap (λ z. conflict_from (conflict l) x z x.first (byte_count x.width)) (sym far.log) ∙ q) stored.0 stored.1 stop.byte))
     meets (Some c) q = refl
 
