@@ -1,7 +1,7 @@
 -- What a run from a launch's start has done to the first memory, by its log.
-use Rattle.std.proofs.Common.{◌≡◌, ℕ, suc, Bool, true, false, Option, None, Some, refl, sym, ap, ◌∙◌, subst, arith, ◌⊎◌, ⊎_elim, inl, inr, ◌&&◌, List, [], ◌∷◌}
+use Rattle.std.proofs.Common.{◌≡◌, ℕ, Bool, true, false, Some, refl, sym, ap, ◌∙◌, subst, ◌⊎◌, ⊎_elim, inl, inr, ◌&&◌, List, [], ◌∷◌}
 use Rattle.std.proofs.lemmas.Bool.{and_parts, true≢false, or_cases}
-use Rattle.clmodel.specs.Cells.{byte_count, size_of, reads, found, covers}
+use Rattle.clmodel.specs.Cells.{size_of, reads, covers}
 use Rattle.clmodel.specs.Launch.{Launch, same_region, kind_of}
 use Rattle.clmodel.specs.Run.{State, Events, initial, start, access_of, step}
 use Rattle.clmodel.specs.Law.{Logged, RunsTo}
@@ -17,7 +17,6 @@ use Rattle.clmodel.proofs.Steps.{ItemStep, item_inverse, ReleaseStep, release_in
 use Rattle.clmodel.proofs.Swaps.{same_region-true}
 use Rattle.joining.specs.Group.{Plan, RunsIn}
 use Rattle.joining.specs.Memory.{writes, at_byte, wrote}
-use Rattle.joining.proofs.Base.{made_at}
 use Rattle.joining.proofs.Over.{is_set, unset_none, found_set, effect_writes, performed, performed_in, unchanged_step, older_clear, set_grows}
 
 -- a store of a log is at this byte

@@ -31,7 +31,7 @@ use Rattle.joining.specs.Parts.{Part, ending, IsPart, AreParts, IsGrouped}
 use Rattle.joining.specs.Memory.{joined_number, writes, class_of, at_byte, wrote, class_at, joined_numbers, joined_update, joined_memory}
 use Rattle.joining.specs.Crossings.{crossing, up_to}
 use Rattle.joining.specs.Join.{Joined, nothing_yet, memory_with, join_whole, join_made, unset_item, asked, stopped_access, take_up, join_stopped, join_at, join, unless, join_all, Answers, JoinIsCanonical}
-use Rattle.joining.proofs.Again.{over_memory, UnsetStop, unset_stop, taken_up}
+use Rattle.joining.proofs.Again.{UnsetStop, unset_stop, taken_up}
 use Rattle.joining.proofs.Base.{some_none, no_order, entry_same, item_does}
 use Rattle.joining.proofs.Begun.{Begun, StoreAt, begun_start, begun_to, begun_in}
 use Rattle.joining.proofs.Grouped.{group_is}

@@ -1,9 +1,9 @@
 -- One group's run over the memory that the groups below left, beside its run on the first memory.
-use Rattle.std.proofs.Common.{◌≡◌, ℕ, zero, suc, ◌+◌, ◌-◌, ◌*◌, ◌<◌, ◌≤◌, Bool, true, false, cond, Option, Some, None, refl, sym, ap, ◌∙◌, subst, arith, ◌⊎◌, ⊎_elim, inl, inr, ◌&&◌, ◌||◌, List, [], ◌∷◌, ◌++◌}
+use Rattle.std.proofs.Common.{◌≡◌, ℕ, zero, suc, ◌+◌, ◌-◌, ◌*◌, ◌<◌, ◌≤◌, Bool, true, false, cond, Option, Some, None, refl, sym, ap, ◌∙◌, subst, arith, ⊎_elim, inl, inr, ◌&&◌, ◌||◌, List, [], ◌∷◌, ◌++◌}
 use Rattle.std.proofs.lemmas.Bool.{and_parts, and_from, both_ways, true≢false, cases_Bool, cases_eq, cond-true, or_parts, or_cases, or_left, or_right, and_cases}
 use Rattle.std.proofs.lemmas.Option.{same_Some}
 use Rattle.clmodel.specs.Cells.{Cells, lowest_unset, unset_or, byte_count, covers, written, byte_of, updated_word, fetched, size_of, reads, found, answer_to, effect}
-use Rattle.clmodel.specs.Launch.{Launch, same_region, region_of, kind_of, access_in, group_of, clash, conflict}
+use Rattle.clmodel.specs.Launch.{Launch, same_region, kind_of, access_in, group_of, clash, conflict}
 use Rattle.clmodel.specs.Run.{Memory, State, initial, start, with_cells}
 use Rattle.clmodel.specs.Law.{Logged, newest_conflict}
 use Rattle.clmodel.specs.declared.access.Access.{Access}
@@ -11,7 +11,6 @@ use Rattle.clmodel.specs.declared.access.AccessKind.{AccessKind}
 use Rattle.clmodel.specs.declared.access.AccessKind.TheVariants as kind
 use Rattle.clmodel.specs.declared.access.Class.{Class}
 use Rattle.clmodel.specs.declared.access.FetchOp.{FetchOp}
-use Rattle.clmodel.specs.declared.access.Object.{Object}
 use Rattle.clmodel.specs.declared.access.Operation.{Operation}
 use Rattle.clmodel.specs.declared.access.Operation.TheVariants.{Load, Store, Update, Fetch}
 use Rattle.clmodel.specs.declared.access.Region.{Region}

@@ -1,5 +1,5 @@
 -- A group that takes up an access whose bytes are set by then is joined as one that made it.
-use Rattle.std.proofs.Common.{◌≡◌, ℕ, suc, ◌+◌, Option, None, Some, refl, sym, ap, ap₂, ◌∙◌, subst, arith, List, [], ◌∷◌, ◌++◌, length}
+use Rattle.std.proofs.Common.{◌≡◌, ℕ, suc, ◌+◌, Option, None, Some, refl, sym, ap, ◌∙◌, subst, arith, [], ◌∷◌, ◌++◌, length}
 use Rattle.std.specs.Option.{option_map, option_and_then}
 use Rattle.std.proofs.lemmas.Option.{same_Some}
 use Rattle.clmodel.specs.Cells.{byte_count, size_of, lowest_unset}
@@ -9,14 +9,13 @@ use Rattle.clmodel.specs.Law.{conflict_from, conflict_fault, newest_conflict}
 use Rattle.clmodel.specs.declared.access.Access.{Access}
 use Rattle.clmodel.specs.declared.access.Conflict as conflict_type
 use Rattle.clmodel.specs.declared.fault.Fault.{Fault}
-use Rattle.clmodel.specs.declared.schedule.Event.{Event}
 use Rattle.clmodel.specs.declared.schedule.Event.TheVariants.{Item, Release}
 use Rattle.clmodel.proofs.Conflicts.{no_newest}
 use Rattle.clmodel.proofs.Steps.{none_some, region_for, item_inverse, release_inverse}
 use Rattle.joining.specs.Group.{Plan, plan_of, RunsIn}
 use Rattle.joining.specs.Parts.{Part, IsGrouped, IsPart, ending}
 use Rattle.joining.specs.Crossings.{crossing, up_to}
-use Rattle.joining.specs.Join.{Joined, memory_with, join_made, unset_item, asked, stopped_access, tried, take_up, join_stopped, join_at, join}
+use Rattle.joining.specs.Join.{Joined, memory_with, unset_item, asked, stopped_access, tried, take_up, join_stopped, join_at, join}
 use Rattle.joining.specs.Steps.{HasGroup, IsJoined, TakenCrosses}
 use Rattle.joining.proofs.Again.{UnsetStop, unset_stop}
 use Rattle.joining.proofs.Begun.{StoreAt, begun_start, begun_to, begun_in}

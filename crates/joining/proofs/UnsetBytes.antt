@@ -1,13 +1,9 @@
 -- Which bytes of the joined memory are unset.
 use Rattle.std.proofs.Common.{◌≡◌, ℕ, Bool, true, false, Option, None, Some, refl, sym, ap, ◌∙◌}
-use Rattle.std.proofs.lemmas.Bool.{both_ways, true≢false}
-use Rattle.clmodel.specs.Launch.{Launch}
+use Rattle.std.proofs.lemmas.Bool.{both_ways}
 use Rattle.clmodel.specs.Run.{start}
-use Rattle.clmodel.specs.declared.access.Region.{Region}
-use Rattle.joining.specs.Crossings.{crossing}
-use Rattle.joining.specs.Join.{Joined, memory_with}
+use Rattle.joining.specs.Join.{memory_with}
 use Rattle.joining.specs.Memory.{wrote}
-use Rattle.joining.specs.Parts.{Part, IsGrouped, IsPart}
 use Rattle.joining.specs.Steps.{UnsetIsBoth}
 use Rattle.joining.proofs.Begun.{Begun, begun_start, begun_to}
 use Rattle.joining.proofs.JoinedBytes.{through}
