@@ -1,5 +1,5 @@
 -- Bytes with changes, and buffers into which changes are written.
-use Rattle.std.proofs.Common.{◌≡◌, ℕ, zero, suc, ◌+◌, ◌-◌, ◌*◌, ◌/◌, ◌%◌, ◌<◌, ◌≤◌, ◌⊎◌, List, [], ◌∷◌, ◌++◌, Some, length, map, take, drop, get_or, min, Result, Ok, Err, OnOk, OnErr, refl, sym, ap, ap₂, ◌∙◌, inl, inr, arith, subst, length-append}
+use Rattle.std.proofs.Common.{◌≡◌, ℕ, zero, suc, ◌+◌, ◌-◌, ◌*◌, ◌/◌, ◌%◌, ◌<◌, ◌≤◌, ◌⊎◌, List, [], ◌∷◌, ◌++◌, Some, length, map, take, drop, min, Result, Ok, Err, OnOk, OnErr, refl, sym, ap, ap₂, ◌∙◌, inl, inr, arith, subst, length-append}
 use Rattle.std.specs.Prelude.{slice_index, slice_get}
 use Rattle.std.specs.List.{range_with_len}
 use Rattle.std.proofs.lemmas.Bool.{cases_lt, cases_eq}

@@ -3,6 +3,7 @@ use Rattle.std.proofs.Common.{◌≡◌, ℕ, zero, suc, ◌+◌, ◌-◌, ◌/�
 use Rattle.std.proofs.Math.Path.{fun_ext}
 use Rattle.std.proofs.lemmas.Bool.{and_parts, cases_eq, ltb-true, ltb-false, le-ltb, eq-eqb, ne_eqb}
 use Rattle.std.specs.Prelude.{get_or, slice_get}
+use Rattle.std.specs.Option.{is_some, unwrap_or}
 use Rattle.std.proofs.lemmas.List.{length-map, length-take-le, map-append, map_more, take_more}
 use Rattle.std.proofs.lemmas.Option.{slice_get-get_or, slice_get_past}
 use Rattle.clmodel.specs.Cells.{Cells, byte_of, cells_of, covers, number, unset_or, lowest_unset, written, is_unset, is_flagged, masked, held_cells}
@@ -347,10 +348,19 @@ held_from (Some b ∷ cells) unset first h =
 pub held_back : (cells : List (Option ℕ)) → held_cells (map byte_in cells) (map flag_in cells) ≡ cells
 held_back cells = held_from cells (is_flagged (map flag_in cells)) 0 (λ k. ap (is_flagged (map flag_in cells)) {x = 0 + k} {y = k} (omega arith))
 
--- bytes and flags with those of one cell more
-pub cell_more : (f : Option ℕ → ℕ) (cells : List (Option ℕ)) (place : ℕ) (cell : Option ℕ) (old new : List ℕ) (n : ℕ) → place < length cells → cell ≡ get_or cells place cell → old ≡ map f (take place cells)
-    → new ≡ old ++ n ∷ [] → n ≡ f cell → new ≡ map f (take (place + 1) cells)
-cell_more f cells place cell old new n below is before more same =
+pub byte_is : (o : Option ℕ) → unwrap_or o 0 ≡ byte_in o
+byte_is None = refl
+byte_is (Some b) = refl
+
+pub flag_is : (o : Option ℕ) → (if is_some o then 0 else 1) ≡ flag_in o
+flag_is None = refl
+flag_is (Some b) = refl
+
+-- bytes or flags with that of one cell more
+pub cell_more :
+    {A : Type 0} (f : Option ℕ → ℕ) (content : A → Option ℕ) (cells : List A) (place : ℕ) (cell : A) (old new : List ℕ) (n : ℕ) → place < length cells → cell ≡ get_or cells place cell
+    → old ≡ map f (map content (take place cells)) → new ≡ old ++ n ∷ [] → n ≡ f (content cell) → new ≡ map f (map content (take (place + 1) cells))
+cell_more f content cells place cell old new n below is before more same =
     more
-    ∙ ap₂ (λ xs x. xs ++ x ∷ []) before (same ∙ ap f is)
-    ∙ sym (map_more f cells place cell below)
+    ∙ ap₂ (λ xs x. xs ++ x ∷ []) before (same ∙ ap (λ x. f (content x)) is)
+    ∙ sym (ap (map f) (map_more content cells place cell below) ∙ map-append f (map content (take place cells)) (content (get_or cells place cell) ∷ []))

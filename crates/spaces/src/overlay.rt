@@ -53,7 +53,9 @@ impl<'a> Overlay<'a> {
         ensures short { length self.now.bytes < 2 ^ 64 }
         ensures set { (byte : ℕ) → byte < length self.now.bytes → (value : ℕ) × (cells_of self.now.bytes byte ≡ Some value) }
     {
-        let _size = self.base.len();
+        // the proof reads from the one that a length is a `u64`, and from the other what the bytes are made of
+        let _size = self.size();
+        let _lent = self.base.len();
     }
 
     /// Whether n bytes from a byte on are there.

@@ -1,6 +1,6 @@
 //! Bytes in a row.
 
-ghost use Rattle.std.specs.Prelude.{◌≡◌, ◌<◌, Some, None, map, length, replicate, false, if◌then◌else◌, slice_get, IfOk};
+ghost use Rattle.std.specs.Prelude.{◌≡◌, ◌<◌, Some, None, map, length, replicate, false, if◌then◌else◌, slice_get, is_some, unwrap_or, IfOk};
 ghost use Rattle.clmodel.specs.Cells.{cells_of, is_flagged, held_cells};
 ghost use Rattle.spaces.specs.Space.{IsChanged};
 
@@ -61,23 +61,29 @@ fn held_by(alloc: Global, bytes: &[u8], flags: &[u8]) -> Result<Vec<Option<u8>>,
     Ok(cells)
 }
 
+/// A byte, 0 where it is unset.
+fn byte_of<C: Cell>(cell: C) -> u8
+    ensures { result ≡ unwrap_or (C.content cell) 0 }
+{
+    cell.byte().unwrap_or(0)
+}
+
+/// Its flag, which isn't 0 where it is unset.
+fn flag_of<C: Cell>(cell: C) -> u8
+    ensures { result ≡ (if is_some (C.content cell) then 0 else 1) }
+{
+    if cell.byte().is_some() { 0 } else { 1 }
+}
+
 /// Bytes and their flags that hold this: an unset byte is 0. An error is out of memory.
-fn contents_of(alloc: Global, cells: &[Option<u8>]) -> Result<Contents, AllocError>
-    ensures { IfOk result (λ contents. held_cells contents.bytes contents.flags ≡ cells.now) }
+fn contents_of<C: Cell>(alloc: Global, cells: &[C]) -> Result<Contents, AllocError>
+    ensures { IfOk result (λ contents. held_cells contents.bytes contents.flags ≡ map C.content cells.now) }
 {
     let mut bytes = Vec::with_capacity(alloc, cells.len())?;
     let mut flags = Vec::with_capacity(alloc, cells.len())?;
     for cell in cells {
-        match cell {
-            Some(byte) => {
-                bytes.push(*byte)?;
-                flags.push(0)?;
-            }
-            None => {
-                bytes.push(0)?;
-                flags.push(1)?;
-            }
-        }
+        bytes.push(byte_of(*cell))?;
+        flags.push(flag_of(*cell))?;
     }
     Ok(Contents {
         bytes: Bytes::new(bytes),
@@ -120,13 +126,6 @@ impl Row<Option<u8>> {
         })
     }
 
-    /// Its bytes, and a flag for each. An error is out of memory.
-    pub fn into_contents(self, alloc: Global) -> Result<Contents, AllocError>
-        ensures { IfOk result (λ contents. held_cells contents.bytes contents.flags ≡ self) }
-    {
-        contents_of(alloc, self.cells.as_slice())
-    }
-
     /// Makes all its bytes unset.
     pub fn unset(&mut self)
         ensures { self.new ≡ replicate (length self.old) None }
@@ -136,6 +135,13 @@ impl Row<Option<u8>> {
 }
 
 impl<C: Cell> Row<C> {
+    /// Its bytes, and a flag for each. An error is out of memory.
+    pub fn into_contents(self, alloc: Global) -> Result<Contents, AllocError>
+        ensures { IfOk result (λ contents. held_cells contents.bytes contents.flags ≡ self) }
+    {
+        contents_of(alloc, self.cells.as_slice())
+    }
+
     /// How many bytes there are.
     pub fn len(&self) -> usize
         ensures { result ≡ length self.now }

@@ -1,29 +1,26 @@
-use Rattle.std.proofs.Common.{◌<◌, length, map, sym, ap, ap₂, ◌∙◌, arith}
+use Rattle.std.proofs.Common.{◌<◌, length, map, ap, ap₂, ◌∙◌, arith}
 use Rattle.std.proofs.lemmas.List.{take_all}
 use Rattle.clmodel.specs.Cells.{held_cells}
-use Rattle.spaces.proofs.Parts.{byte_in, flag_in, held_back, cell_more}
+use Rattle.spaces.proofs.Parts.{byte_in, flag_in, byte_is, flag_is, held_back, cell_more}
 use Rattle.spaces.proofs.row.contents_of.Goals as goal
 
 pub loop-cell-preserved : goal.loop-cell-preserved
-loop-cell-preserved c =
+loop-cell-preserved g c =
     let place = c.loop-cell.cell-index in
     let below : place < length c.args.cells.now = omega (arith, c.loop-cell-test.true) in
+    let cell = c.cell-item.result in
     record {
-      bytes = cell_more byte_in c.args.cells.now place c.cell-item.result _ _ _ below c.cell-item.is c.loop-cell.invariant.bytes c.in_ok-push.ensures.items (ap byte_in (sym c.in-Some.is));
-      flags = cell_more flag_in c.args.cells.now place c.cell-item.result _ _ _ below c.cell-item.is c.loop-cell.invariant.flags c.in_ok-push-2.ensures.items (ap flag_in (sym c.in-Some.is));
-    }
-
-pub loop-cell-preserved-in-None : goal.loop-cell-preserved-in-None
-loop-cell-preserved-in-None c =
-    let place = c.loop-cell.cell-index in
-    let below : place < length c.args.cells.now = omega (arith, c.loop-cell-test.true) in
-    record {
-      bytes = cell_more byte_in c.args.cells.now place c.cell-item.result _ _ _ below c.cell-item.is c.loop-cell.invariant.bytes c.in_ok-push-in-None.ensures.items (ap byte_in (sym c.in-None.is));
-      flags = cell_more flag_in c.args.cells.now place c.cell-item.result _ _ _ below c.cell-item.is c.loop-cell.invariant.flags c.in_ok-push-in-None-2.ensures.items (ap flag_in (sym c.in-None.is));
+      bytes = cell_more byte_in g.C.Cell.content c.args.cells.now place cell _ _ _ below c.cell-item.is c.loop-cell.invariant.bytes c.in_ok-push.ensures.items
+          (c.byte_of.ensures ∙ byte_is (g.C.Cell.content cell));
+      flags = cell_more flag_in g.C.Cell.content c.args.cells.now place cell _ _ _ below c.cell-item.is c.loop-cell.invariant.flags c.in_ok-push-2.ensures.items
+          (c.flag_of.ensures ∙ flag_is (g.C.Cell.content cell));
     }
 
 pub returns : goal.returns
-returns c =
+returns g c =
+    let content = g.C.Cell.content in
     let cells = c.args.cells.now in
     let all = take_all c.loop-cell.cell-index cells (omega (arith, c.loop-cell-test.false)) in
-    ap₂ held_cells (c.loop-cell.invariant.bytes ∙ ap (map byte_in) all) (c.loop-cell.invariant.flags ∙ ap (map flag_in) all) ∙ held_back cells
+    ap₂ held_cells (c.new.ensures ∙ c.loop-cell.invariant.bytes ∙ ap (λ xs. map byte_in (map content xs)) all)
+    (c.new-2.ensures ∙ c.loop-cell.invariant.flags ∙ ap (λ xs. map flag_in (map content xs)) all)
+    ∙ held_back (map content cells)

@@ -6,7 +6,7 @@ use Rattle.spaces.proofs.row.held_by.Goals as goal
 
 pub loop-place-preserved : goal.loop-place-preserved
 loop-place-preserved c =
-    let below : c.loop-place.place < length c.args.bytes.now = omega (arith, c.loop-place-test.true, c.len-place-end.ensures) in
+    let below : c.loop-place.place < length c.args.bytes.now = omega (arith, c.loop-place-test.true) in
     c.in_ok-push.ensures.items
     ∙ ap₂ (λ cells cell. cells ++ cell ∷ []) c.loop-place.invariant c.cell_at.ensures
     ∙ sym (held_more c.args.bytes.now c.args.flags.now c.loop-place.place below)
@@ -14,4 +14,4 @@ loop-place-preserved c =
 pub returns : goal.returns
 returns c =
     c.loop-place.invariant
-    ∙ ap (λ bytes. held_cells bytes c.args.flags.now) (take_all c.loop-place.place c.args.bytes.now (omega (arith, c.loop-place-test.false, c.len-place-end.ensures)))
+    ∙ ap (λ bytes. held_cells bytes c.args.flags.now) (take_all c.loop-place.place c.args.bytes.now (omega (arith, c.loop-place-test.false)))

@@ -1,4 +1,4 @@
-use Rattle.std.proofs.Common.{◌≡◌, ◌+◌, ◌-◌, ◌/◌, ◌==◌, ◌&&◌, not, true, false, ◌∙◌, sym, ap, subst, arith}
+use Rattle.std.proofs.Common.{◌≡◌, ℕ, ◌+◌, ◌-◌, ◌/◌, ◌==◌, ◌&&◌, not, true, ◌∙◌, sym, ap, subst, arith}
 use Rattle.std.proofs.lemmas.Bool.{and_parts}
 use Rattle.clmodel.specs.Cells.{covers}
 use Rattle.clmodel.proofs.CellLaws.{covers_from}
@@ -13,11 +13,14 @@ returns-then-count-eq0-clause-cleared t c byte = nothing_covered (unset_in c.arg
 pub clear_one-requires : goal.clear_one-requires
 clear_one-requires t c marked = c.requires.copied c.args.first (covers_from c.args.first c.args.count c.args.first (omega arith) (omega (arith, c.if-count-eq0.false))) marked
 
-pub clear-requires-clause-copied : goal.clear-requires-clause-copied
-clear-requires-clause-copied t c byte covered marked =
-    let old = c.args.self.now in
-    let was : unset_in old byte ≡ true = (and_parts (unset_in old byte) (not (byte == c.args.first)) (sym (c.clear_one.ensures.cleared byte) ∙ marked)).0 in
-    subst (λ z. IsCopied (copies z) (byte / 256)) (sym c.clear_one.ensures.table) (c.requires.copied byte (later_covers c.args.first c.args.count byte covered) was)
+pub clear-requires : goal.clear-requires
+clear-requires t c = (omega (arith, c.if-count-eq0.false), (omega (arith, c.requires.short, c.if-count-eq0.false), copied))
+  where
+    copied : (byte : ℕ) → covers (c.args.first + 1) (c.args.count - 1) byte ≡ true → unset_in c.clear_one.new.self byte ≡ true → IsCopied (copies c.clear_one.new.self.pages.table) (byte / 256)
+    copied byte covered marked =
+        let was : unset_in c.args.self.now byte ≡ true
+        = (and_parts (unset_in c.args.self.now byte) (not (byte == c.args.first)) (sym (c.clear_one.ensures.cleared byte) ∙ marked)).0 in
+        subst (λ z. IsCopied (copies z) (byte / 256)) (sym c.clear_one.ensures.table) (c.requires.copied byte (later_covers c.args.first c.args.count byte covered) was)
 
 pub returns-clause-cleared : goal.returns-clause-cleared
 returns-clause-cleared t c byte =

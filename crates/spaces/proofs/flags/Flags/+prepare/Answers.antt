@@ -1,4 +1,4 @@
-use Rattle.std.proofs.Common.{◌≡◌, ◌/◌, ⊎_elim, true, ◌∙◌, sym, ap, subst, arith}
+use Rattle.std.proofs.Common.{◌≡◌, ◌/◌, ⊎_elim, ◌∙◌, sym, ap, subst, arith}
 use Rattle.spaces.specs.Overlay.{copies, IsCopied}
 use Rattle.spaces.specs.Parts.{unset_in}
 use Rattle.clmodel.proofs.CellLaws.{covers_parts}

@@ -1,4 +1,4 @@
-use Rattle.std.proofs.Common.{◌≡◌, ◌<◌, ◌/◌, true, length, ◌∙◌, sym, ap, subst, arith}
+use Rattle.std.proofs.Common.{◌≡◌, ◌<◌, ◌/◌, length, ◌∙◌, sym, ap, subst, arith}
 use Rattle.spaces.specs.Overlay.{copies, overlaid_cells, IsCopied}
 use Rattle.spaces.specs.Parts.{unset_in, is_marked}
 use Rattle.spaces.proofs.Parts.{marked_there, one_cleared, none_cleared}

@@ -1,6 +1,6 @@
-use Rattle.std.proofs.Common.{◌≡◌, ◌<◌, ◌*◌, ◌/◌, true, false, length, ◌∙◌, sym, subst, arith}
+use Rattle.std.proofs.Common.{◌<◌, length, ◌∙◌, sym, subst, arith}
 use Rattle.std.proofs.lemmas.Bool.{both_ways}
-use Rattle.spaces.specs.Overlay.{copies, IsCopied}
+use Rattle.spaces.specs.Overlay.{copies}
 use Rattle.spaces.proofs.Parts.{marked_same, marked_there}
 use Rattle.spaces.proofs.flags.Flags.copy.Goals as goal
 

@@ -5,10 +5,7 @@ use Rattle.spaces.proofs.PageRows.{as_many, overlaid_at}
 use Rattle.spaces.proofs.overlay.Overlay.all_set.Goals as goal
 
 pub returns-clause-short : goal.returns-clause-short
-returns-clause-short c =
-    let pages = c.self.inside.pages in
-    let many : length c.args.self.now.bytes ≡ length c.self.inside.base.now = as_many c.args.self.now c.self.inside.base.now (copies pages.table) pages.cells.items (sym c.self.view_is) in
-    omega (arith, many, c.len-_size.ensures)
+returns-clause-short c = omega (arith, c.size-size.ensures)
 
 pub returns-clause-set : goal.returns-clause-set
 returns-clause-set c byte inside =

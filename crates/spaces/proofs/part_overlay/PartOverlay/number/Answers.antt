@@ -1,4 +1,4 @@
-use Rattle.std.proofs.Common.{◌≡◌, ◌+◌, ◌≤◌, length, None, ◌∙◌, sym, ap, subst}
+use Rattle.std.proofs.Common.{◌≡◌, ◌+◌, ◌≤◌, None, ◌∙◌, sym, subst}
 use Rattle.clmodel.specs.Cells.{byte_count}
 use Rattle.spaces.specs.Parts.{unset_in, lowest_marked}
 use Rattle.spaces.proofs.Parts.{seen_many, seen_lowest, seen_number}

@@ -1,6 +1,5 @@
-use Rattle.std.proofs.Common.{◌≡◌, ◌+◌, ◌≤◌, ◌&&◌, not, ap₂, length, None, ◌∙◌, sym, ap, subst, arith}
+use Rattle.std.proofs.Common.{◌≡◌, ◌+◌, ◌≤◌, ◌&&◌, not, ap₂, ◌∙◌, sym, ap, subst, arith}
 use Rattle.clmodel.specs.Cells.{masked, byte_count, covers}
-use Rattle.spaces.specs.Overlay.{copies, IsCopied}
 use Rattle.spaces.specs.Parts.{unset_in}
 use Rattle.spaces.proofs.PageRows.{on_err}
 use Rattle.spaces.proofs.Parts.{seen_many, seen_put, masked_same}
@@ -10,7 +9,7 @@ pub prepare-requires : goal.prepare-requires
 prepare-requires c =
     let o = c.self.inside in
     let many = seen_many c.args.self.now o.overlay.base o.flags.row.now (unset_in o.flags) o.overlay.bytes (sym c.self.view_is) in
-    omega (arith, many, c.requires, c.all_set.ensures.short, c.bytes.ensures.value)
+    omega (arith, many, c.requires, c.all_set.ensures.short, c.bytes-count.ensures.value)
 
 pub put-requires : goal.put-requires
 put-requires c =
@@ -21,7 +20,7 @@ pub clear-requires-clause-short : goal.clear-requires-clause-short
 clear-requires-clause-short c =
     let o = c.self.inside in
     let many = seen_many c.args.self.now o.overlay.base o.flags.row.now (unset_in o.flags) o.overlay.bytes (sym c.self.view_is) in
-    omega (arith, many, c.requires, c.all_set.ensures.short, c.bytes.ensures.value)
+    omega (arith, many, c.requires, c.all_set.ensures.short, c.bytes-count.ensures.value)
 
 pub clear-requires-clause-copied : goal.clear-requires-clause-copied
 clear-requires-clause-copied c = c.in_ok-prepare.ensures.copied
@@ -52,7 +51,7 @@ pub returns-clause-changed : goal.returns-clause-changed
 returns-clause-changed c =
     let o = c.self.inside in
     let count = byte_count c.args.width in
-    let n : c.bytes.result ≡ count = c.bytes.ensures.value in
+    let n : c.bytes-count.result ≡ count = c.bytes-count.ensures.value in
     seen_put c.args.self.now o.overlay.base o.flags.row.now (unset_in o.flags) o.overlay.bytes (sym c.self.view_is) (unset_in c.clear.new.self) c.put.new.self.bytes c.args.at count c.args.value c.in_ok-put.ensures.changed
     (λ byte. c.clear.ensures.cleared byte ∙ ap₂ (λ x y. x && not (covers c.args.at y byte)) (c.prepare.ensures.same byte) n)
 

@@ -1,4 +1,4 @@
-use Rattle.std.proofs.Common.{◌≡◌, ◌+◌, ◌≤◌, length, None, ◌∙◌, sym, ap, subst}
+use Rattle.std.proofs.Common.{◌≡◌, ◌+◌, ◌≤◌, None, ◌∙◌, sym, ap, subst}
 use Rattle.clmodel.specs.Cells.{masked, byte_count}
 use Rattle.spaces.specs.Parts.{unset_in, lowest_marked}
 use Rattle.spaces.proofs.Parts.{seen_many, seen_lowest, seen_put, none_to_clear, on_ok_more, on_err_more}
