@@ -86,7 +86,7 @@ fn stopped<D: Runnable, G: Space + Drop, L: AccessLog + Drop>(
 ) -> Result<GroupResult<G, L>, AllocError>
     requires planned { plan_of (D.Described.launch machine.launch.now) machine.number ≡ record { launch = D.Described.launch machine.launch.now; group = machine.number; first = machine.first; count = length machine.items.items } }
     requires reported { Reported (record { launch = D.Described.launch machine.launch.now; group = machine.number; first = machine.first; count = length machine.items.items }) (Fits (acts_at (D.Described.launch machine.launch.now) machine.first) G.bytes G.read_only (record { launch = D.Described.launch machine.launch.now; group = machine.number; first = machine.first; count = length machine.items.items }) machine.items.items machine.made machine.buffers.items machine.locals.items (L.Logged.log machine.log)) (start (D.Described.launch machine.launch.now)) runs fault }
-    ensures { IfOk result (IsResult G.bytes L.Logged.log (D.Described.launch machine.launch.now) machine.number) }
+    ensures { IfOk result (IsResult G.bytes L.Logged.log (D.Described.launch machine.entry.launch.now) machine.entry.number) }
 {
     let group = machine.number;
     match try_stop(&mut machine, &mut runs, &fault)? {
