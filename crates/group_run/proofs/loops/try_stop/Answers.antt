@@ -34,7 +34,7 @@ returns-in_default-2-clause-tried g c =
     let k = c.in-Some.item - c.first.result in
     let w = place_is p c.in-Some.item c.first.result (stop_place p c.requires.1.0 r.state c.args.fault.now c.in-Some.item is r.reports) c.first.ensures.value in
     ends_idle p q g.origin c.args.runs.now c.args.fault.now (g.M.Machine.fits c.args.m.now) (g.M.Machine.fits c.next.new.self) (g.M.Machine.fits c.next.new.self) r c.next.ensures.plan_same
-    c.next.ensures.fits_same c.in-Some.item k is w.2 _ (g.M.Machine.turns_at c.next.new.self k) (c.in_ok-object.ensures.value c.args.runs.now r.state r.holds) c.in_default.not-Access
+    c.next.ensures.fits_same c.in-Some.item k is w.2 _ (g.M.Machine.turns_at c.next.new.self k) (c.in_ok-object.ensures.value c.args.runs.now r.state r.holds) c.in_default-2.not-Access
 
 pub returns-in-None-clause-tried : goal.returns-in-None-clause-tried
 returns-in-None-clause-tried g c =
@@ -62,8 +62,8 @@ push-requires g c =
     c.next.ensures.fits_same c.in-Some.item k is w.2 _ (g.M.Machine.turns_at c.next.new.self k) (c.in_ok-object.ensures.value c.args.runs.now r.state r.holds)
     c.in-Access.object c.in-Access.element _ c.in-Access.operation back c.in-Access.is _ c.in_ok-tried-in-Access.ensures.tried c.in-Some-2.tried c.in-Some-2.is
 
-pub returns-in_ok-push-in-Some-clause-tried : goal.returns-in_ok-push-in-Some-clause-tried
-returns-in_ok-push-in-Some-clause-tried g c =
+pub returns-in_ok-push-in-Some-2-clause-tried : goal.returns-in_ok-push-in-Some-2-clause-tried
+returns-in_ok-push-in-Some-2-clause-tried g c =
     let p = g.M.Machine.plan c.args.m.now in
     let q = g.M.Machine.plan c.next.new.self in
     let r = c.requires.1.1 in
