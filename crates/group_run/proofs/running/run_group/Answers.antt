@@ -29,9 +29,9 @@ run_items-requires g c κs within =
 pub returns-in-None : goal.returns-in-None
 returns-in-None g c = let m = c.run_items.new.m in (
   refl,
-  c.into_schedule-runs.ensures.merged,
+  c.into_schedule.ensures.merged,
   done_result (acts_at (g.D.Described.launch m.launch.now) m.first) g.G.Space.bytes g.G.Space.read_only (g.D.Described.launch c.args.launch.now) c.args.group c.group_size-count.result
-      m.items.items m.made m.buffers.items m.locals.items (g.L.Logged.log m.log) (option_map box_value c.in_ok-report.report) c.group_size-count.ensures.value c.in_ok-items.items.items (ap length c.in_ok-items.ensures ∙ length-replicate c.group_size-count.result slot.Waiting) c.in_ok-report.ensures.plan_same c.into_schedule-runs.ensures.events c.in_ok-report.ensures.ran (ap (option_map box_value) c.in-None.is),
+      m.items.items m.made m.buffers.items m.locals.items (g.L.Logged.log m.log) (option_map box_value c.in_ok-report.report) c.group_size-count.ensures.value c.in_ok-items.items.items (ap length c.in_ok-items.ensures ∙ length-replicate c.group_size-count.result slot.Waiting) c.in_ok-report.ensures.plan_same c.into_schedule.ensures.events c.in_ok-report.ensures.ran (ap (option_map box_value) c.in-None.is),
 )
 
 pub stopped-requires : goal.stopped-requires
