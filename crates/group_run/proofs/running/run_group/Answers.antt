@@ -42,11 +42,12 @@ stopped-requires g c =
     let many = ap length c.in_ok-items.ensures ∙ length-replicate size.result slot.Waiting in
     let here : Plan = record { launch = l; group = c.args.group; first = c.args.group * size.result; count = length c.in_ok-items.items.items } in
     let q : Plan = record { launch = g.D.Described.launch m.launch.now; group = m.number; first = m.first; count = length m.items.items } in
-    let fits : Events → State → Type 0 = Fits (acts_at q.launch m.first) g.G.Space.bytes g.G.Space.read_only q m.items.items m.made m.buffers.items m.locals.items (g.L.Logged.log m.log) in (
-      sym (plan_kept q here c.in_ok-report.ensures.plan_same l c.args.group (plan_same l c.args.group (c.args.group * size.result) (length c.in_ok-items.items.items) (ap (λ n. c.args.group * n) size.ensures.value) (many ∙ size.ensures.value))),
-      report_kept q here c.in_ok-report.ensures.plan_same fits c.run_items.new.runs (option_map box_value c.in_ok-report.report) c.into_inner.result
-          (ap (option_map box_value) c.in-Some.is ∙ ap Some (sym c.into_inner.ensures)) c.in_ok-report.ensures.ran,
-    )
+    let fits : Events → State → Type 0 = Fits (acts_at q.launch m.first) g.G.Space.bytes g.G.Space.read_only q m.items.items m.made m.buffers.items m.locals.items (g.L.Logged.log m.log) in
+    record {
+      planned = sym (plan_kept q here c.in_ok-report.ensures.plan_same l c.args.group (plan_same l c.args.group (c.args.group * size.result) (length c.in_ok-items.items.items) (ap (λ n. c.args.group * n) size.ensures.value) (many ∙ size.ensures.value)));
+      reported = report_kept q here c.in_ok-report.ensures.plan_same fits c.run_items.new.runs (option_map box_value c.in_ok-report.report) c.into_inner.result
+          (ap (option_map box_value) c.in-Some.is ∙ ap Some (sym c.into_inner.ensures)) c.in_ok-report.ensures.ran;
+    }
 
 pub returns-in-Some : goal.returns-in-Some
 returns-in-Some g c =
