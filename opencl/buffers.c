@@ -1,5 +1,5 @@
 #include "digits.h"
-#include "objects.h"
+#include "unset.h"
 #include <stdio.h>
 #include <stdlib.h>
 #include <string.h>
@@ -26,19 +26,37 @@ const char *ask_write(cl_context c, unsigned buffer, size_t offset, const void *
     return reply;
 }
 
-static cl_int read_piece(cl_context c, unsigned buffer, size_t offset, unsigned char *to, size_t n) {
-    const char *reply = session_askf(c->session, "read b%u %zu %zu\n", buffer, offset, n);
+static const char *ask_data(cl_context c, unsigned buffer, size_t offset, size_t n) {
+    return session_askf(c->session, "read b%u %zu %zu\n", buffer, offset, n);
+}
+static cl_int take_data(const char *reply, unsigned char *to, size_t n) {
     if (!reply || strncmp(reply, "data ", 5) || strlen(reply) != 5 + 2 * n)
         return error_of(reply) == CL_SUCCESS ? CL_OUT_OF_RESOURCES : error_of(reply);
     take_digits(to, reply + 5, n);
     return CL_SUCCESS;
 }
 
-cl_int ask_read(cl_context c, unsigned buffer, size_t offset, void *to, size_t n) {
+cl_int ask_read_set(cl_context c, unsigned buffer, size_t offset, unsigned char *to, size_t n, size_t *set,
+                    size_t *unset) {
+    size_t first;
+    const char *reply = ask_data(c, buffer, offset, n);
+    bool is_refused = refuses_unset(reply, &first, unset) && first >= offset && first - offset < n;
+    *set = is_refused ? first - offset : n;
+    if (!is_refused) *unset = 0;
+    else if (*unset > n - *set) return CL_OUT_OF_RESOURCES; // (more than were asked for)
+    else if (!*set) return CL_SUCCESS;
+    else reply = ask_data(c, buffer, offset, *set);
+    return take_data(reply, to, *set);
+}
+
+cl_int ask_read(cl_context c, unsigned buffer, size_t offset, void *to, size_t n, unset_bytes *noted) {
     cl_int fault = CL_SUCCESS;
-    for (size_t done = 0, piece; !fault && done < n; done += piece) {
-        piece = piece_of(n - done);
-        fault = read_piece(c, buffer, offset + done, (unsigned char *)to + done, piece);
+    for (size_t done = 0, set, unset; !fault && done < n; done += set + unset) {
+        unsigned char *at = (unsigned char *)to + done;
+        fault = ask_read_set(c, buffer, offset + done, at, piece_of(n - done), &set, &unset);
+        if (fault || !unset) continue;
+        memset(at + set, 0, unset);
+        if (noted) note_unset(noted, offset + done + set, unset);
     }
     return fault;
 }
@@ -51,8 +69,8 @@ cl_int ask_copy(cl_context c, unsigned from, size_t offset, unsigned to, size_t 
 static const char *write_memory(cl_mem m, size_t offset, const void *from, size_t n) {
     return ask_write(m->context, whole_of(m)->number, m->origin + offset, from, n);
 }
-static cl_int read_memory(cl_mem m, size_t offset, void *to, size_t n) {
-    return ask_read(m->context, whole_of(m)->number, m->origin + offset, to, n);
+static cl_int read_memory(cl_mem m, size_t offset, void *to, size_t n, unset_bytes *unset) {
+    return ask_read(m->context, whole_of(m)->number, m->origin + offset, to, n, unset);
 }
 static cl_int copy_memory(cl_mem m, size_t offset, cl_mem target, size_t to, size_t n) {
     return ask_copy(m->context, whole_of(m)->number, m->origin + offset, whole_of(target)->number, target->origin + to,
@@ -123,7 +141,8 @@ CL_API_ENTRY cl_mem CL_API_CALL clCreateBuffer(cl_context c, cl_mem_flags flags,
     m->number = ++c->names;
     m->size = n;
     m->flags = flags ? flags : CL_MEM_READ_WRITE; // the default (OpenCL 1.2, 5.2.1)
-    const char *reply = session_askf(c->session, "buffer b%u %zu\n", m->number, n);
+    m->is_unset = !wants && session_has_unset(c->session);
+    const char *reply = session_askf(c->session, "buffer b%u %zu%s\n", m->number, n, m->is_unset ? " unset" : "");
     cl_int fault = error_of(reply);
     if (fault) {
         refuse(c, "clCreateBuffer: %s (limits: %s, %zu buffers)", reply ? reply : "no reply", limits->name,
@@ -132,6 +151,7 @@ CL_API_ENTRY cl_mem CL_API_CALL clCreateBuffer(cl_context c, cl_mem_flags flags,
         return fail(errcode, fault);
     }
     c->uses++;
+    m->made = ++c->buffers;
     if (wants) fault = error_of(ask_write(c, m->number, 0, host, n));
     if (fault) {
         m->references = 0;
@@ -249,16 +269,22 @@ static bool no_writing(cl_mem m) { return (m->flags & (CL_MEM_HOST_NO_ACCESS | C
 
 // ---- commands ----
 
+// Whether a command is told that reads what nobody has set. A region that is mapped for writing too is read for the
+// client to write into.
+static bool is_for_reading(const command *c) { return !c->map || !(c->map->flags & MAPPED_FOR_WRITING); }
+
 // Moves the bytes of a command: out of a buffer into the client's memory, from there into it, or into another one.
 static cl_int move_bytes(command *c) {
+    unset_bytes unset = {0};
     for (size_t n = 0; n < c->bytes.count; n++) {
         size_t x = row_at(&c->bytes, n), y = row_at(&c->other, n), width = c->bytes.width;
         cl_int fault;
-        if (c->into) fault = read_memory(c->memory, x, c->into + y, width);
+        if (c->into) fault = read_memory(c->memory, x, c->into + y, width, &unset);
         else if (c->from) fault = error_of(write_memory(c->memory, x, c->from + y, width));
         else fault = copy_memory(c->memory, x, c->target, y, width);
         if (fault) return fault;
     }
+    if (is_for_reading(c)) tell_unset(c, &unset);
     return CL_SUCCESS;
 }
 

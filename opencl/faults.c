@@ -4,6 +4,7 @@
 #include "digits.h"
 #include "explained.h"
 #include "reasons.h"
+#include "unset.h"
 #include <inttypes.h>
 #include <stdio.h>
 #include <stdlib.h>
@@ -52,6 +53,8 @@ void check_settings(void) {
     const char *flags = setting("CLSIM_FLAGS");
     if (flags && strcmp(flags, "go") && strcmp(flags, "fault"))
         tell("CLSIM_FLAGS is fault or go, and not %s", flags);
+    const char *zero = setting("CLSIM_ZERO");
+    if (zero && strcmp(zero, "0") && strcmp(zero, "1")) tell("CLSIM_ZERO is 0 or 1, and not %s", zero);
     size_t group = limits_of_device()->group, ticks = limits_of_device()->ticks;
     if (setting("CLSIM_LOCAL") && number_setting("CLSIM_LOCAL", 1, (long)group, 0) == 0)
         tell("CLSIM_LOCAL is a number from 1 to %zu, and not %s", group, setting("CLSIM_LOCAL"));
@@ -403,19 +406,29 @@ typedef struct {
 
 static bool are_zero(const unsigned char *bytes, size_t n) { return !bytes[0] && !memcmp(bytes, bytes + 1, n - 1); }
 
-// A buffer with what it holds: a launch that faults has changed nothing. A piece of zeros needs no line, since a buffer
-// is made of them.
+// A piece of a buffer's bytes. One of zeros needs no line where the buffer is made of them.
+static bool add_piece(text *t, buffer_piece *piece, unsigned number, size_t at, size_t n, bool is_unset) {
+    if (!n) return true;
+    if (are_zero(piece->bytes, n)) {
+        if (is_unset) addf(t, "fill b%u %zu %zu 00\n", number, at, n);
+        return true;
+    }
+    if (t->length + 2 * n > MAX_EXPLAINED_BYTES) return false;
+    put_digits(piece->digits, piece->bytes, n);
+    addf(t, "write b%u %zu ", number, at);
+    add_bytes(t, piece->digits, 2 * n);
+    add(t, "\n");
+    return true;
+}
+
+// A buffer with what it holds: a launch that faults has changed nothing. Bytes that nobody has set are so there too.
 static bool add_buffer(text *t, buffer_piece *piece, cl_context c, unsigned number, size_t size) {
-    addf(t, "buffer b%u %zu\n", number, size);
-    for (size_t at = 0, n; at < size; at += n) {
+    bool is_unset = session_has_unset(c->session);
+    addf(t, "buffer b%u %zu%s\n", number, size, is_unset ? " unset" : "");
+    for (size_t at = 0, n, set, unset; at < size; at += set + unset) {
         n = size - at < PIECE_BYTES ? size - at : PIECE_BYTES;
-        if (ask_read(c, number, at, piece->bytes, n)) return false;
-        if (are_zero(piece->bytes, n)) continue;
-        if (t->length + 2 * n > MAX_EXPLAINED_BYTES) return false;
-        put_digits(piece->digits, piece->bytes, n);
-        addf(t, "write b%u %zu ", number, at);
-        add_bytes(t, piece->digits, 2 * n);
-        add(t, "\n");
+        if (ask_read_set(c, number, at, piece->bytes, n, &set, &unset)) return false;
+        if (!add_piece(t, piece, number, at, set, is_unset)) return false;
     }
     return true;
 }
@@ -447,7 +460,7 @@ static bool add_buffers(text *t, cl_kernel k) {
 static bool add_script(text *t, cl_kernel k, const launch_sizes *s) {
     const kernel_form *form = k->form;
     const prepared *source = k->source;
-    addf(t, "clsim %d\n", s->orders ? 3 : 2);
+    addf(t, "clsim %d\n", s->orders || session_has_unset(k->context->session) ? 3 : 2);
     if (!add_buffers(t, k)) return false;
     addf(t, "program p%u %u\n", k->program_number, form->lines);
     add_bytes(t, source->text + form->begin, form->length);
@@ -603,6 +616,8 @@ static void tell_launch(cl_kernel k, const char *line, const launch_sizes *s, co
     tell("  kernel %s, launch %u of its context, global size %s, local size %s", k->form->name, k->context->launches,
          global, local);
     if (m) (is_held ? tell_flags : m->is_local ? tell_local : tell_buffer)(k, m);
+    bool is_unset = m && !m->is_local && !strncmp(line, "fault 5 ", 8);
+    if (is_unset && *m->name == 'b') tell_maker(k, (unsigned)strtoul(m->name + 1, NULL, 10));
     tell_name(k, line);
     const char *schedule = strstr(line, " schedule ");
     for (const char *at = strstr(line, " item "); at && (!schedule || at < schedule); at = strstr(at + 1, " item ")) {

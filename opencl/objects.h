@@ -44,6 +44,7 @@ struct _cl_context {
     HEAD;
     session *session;
     unsigned names, launches; // how many names were given, and how many launches made
+    unsigned buffers;         // how many calls of clCreateBuffer made one
     cl_context_properties *properties;
     size_t property_count;
     void(CL_CALLBACK *notify)(const char *, const void *, size_t, void *);
@@ -96,6 +97,8 @@ struct _cl_mem {
     cl_mem parts;    // its sub-buffers,
     cl_mem next;     // and the next one of those of its buffer
     size_t size;
+    unsigned made; // by which call of clCreateBuffer of its context, from 1; 0 for a sub-buffer
+    bool is_unset; // nobody had set its bytes then
     cl_mem_flags flags;
     void *host;
     mapping *mappings; // from the call that maps to the one that unmaps
@@ -328,8 +331,17 @@ void let_others(const char *call, unsigned *turns);
 enum { PIECE_BYTES = 1048576 };
 // Writes bytes into a buffer of a context by its number, in pieces; the line of the last reply. No other one is but ok.
 const char *ask_write(cl_context c, unsigned buffer, size_t offset, const void *from, size_t n);
-// Reads bytes of a buffer, in pieces. Where one is refused, those before it have been read.
-cl_int ask_read(cl_context c, unsigned buffer, size_t offset, void *to, size_t n);
+// Unset bytes that a read has met: the first ones, one behind another, and how many there are behind these.
+typedef struct {
+    size_t first, count, others;
+} unset_bytes;
+// Reads bytes of a buffer, in pieces. Where one is refused, those before it have been read. Bytes that nobody has set
+// are 0, and noted where there is a place for it.
+cl_int ask_read(cl_context c, unsigned buffer, size_t offset, void *to, size_t n, unset_bytes *unset);
+// Reads bytes of a buffer, at most a piece, up to the first that nobody has set: how many were read, and how many that
+// nobody has set follow.
+cl_int ask_read_set(cl_context c, unsigned buffer, size_t offset, unsigned char *to, size_t n, size_t *set,
+                    size_t *unset);
 // Copies bytes from one buffer into one by their numbers.
 cl_int ask_copy(cl_context c, unsigned from, size_t offset, unsigned to, size_t at, size_t n);
 // Gives a sub-buffer a buffer of its own in the device, for kernels.

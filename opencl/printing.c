@@ -212,7 +212,8 @@ cl_int end_printing(cl_kernel k, const launch_sizes *sizes) {
     size_t bytes = 4 * k->print_words * product(sizes->global, sizes->dimensions);
     uint32_t *words = malloc(bytes);
     item_words *items = malloc(product(sizes->local, sizes->dimensions) * sizeof *items);
-    cl_int fault = words && items ? ask_read(k->context, k->print_number, 0, words, bytes) : CL_OUT_OF_HOST_MEMORY;
+    cl_int fault = CL_OUT_OF_HOST_MEMORY;
+    if (words && items) fault = ask_read(k->context, k->print_number, 0, words, bytes, NULL);
     locale_t before = begin_c_locale();
     if (!fault) print_all(k, sizes, words, items);
     end_c_locale(before);

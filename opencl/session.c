@@ -25,6 +25,7 @@ struct session {
     int life; // whose other end the child has: where this process is gone, the kernel ends the child
     bool gone, recording;
     bool has_orders;       // it is of version 3, in which a launch may have the word `orders`
+    bool has_unset;        // and in which a buffer may have the word `unset`
     bool looks;            // whether the child may answer while this thread looks for the reply
     unsigned misses, skip; // how many looks in a row found nothing, and how many replies aren't looked for therefore
     char *in;              // what came of a reply
@@ -253,6 +254,14 @@ bool zeroes_unset(void) {
     return wanted && !strcmp(wanted, "zero");
 }
 
+// What new buffers are without a setting. (They are to be unset, once the device that goes with this driver has such.)
+static const bool are_zero_by_themselves = true;
+
+bool zeroes_buffers(void) {
+    const char *wanted = setting("CLSIM_ZERO");
+    return wanted && (!strcmp(wanted, "0") || !strcmp(wanted, "1")) ? *wanted == '1' : are_zero_by_themselves;
+}
+
 bool goes_past_flags(void) {
     const char *wanted = setting("CLSIM_FLAGS");
     return wanted && !strcmp(wanted, "go");
@@ -395,6 +404,7 @@ const char *session_askf(session *s, const char *format, ...) {
 void session_record(session *s, bool on) { s->recording = on; }
 
 bool session_has_orders(const session *s) { return s->has_orders; }
+bool session_has_unset(const session *s) { return s->has_unset; }
 
 // ---- sessions ----
 
@@ -447,31 +457,54 @@ static void close_device(session *s) {
     close(s->life);
 }
 
-// Begins a script of a version, by its first line, and asks for the bytes of a buffer that isn't there. A device that
-// doesn't know the version ends at that.
-static bool begin_version(session *s, const char *line) {
+static const char second[] = "clsim 2\n", third[] = "clsim 3\n";
+
+// Begins a script of a version, by its first line, and asks for something that is refused: for the bytes of a buffer
+// that isn't there, or for a buffer of none. A device that doesn't know the version, or the line, ends at that.
+static bool begin_version(session *s, const char *line, const char *question) {
     char command[64];
-    int n = snprintf(command, sizeof command, "%sread b0 0 1\n", line);
+    int n = snprintf(command, sizeof command, "%s%s", line, question);
     return exchange(s, command, (size_t)n) != NULL;
 }
+static const char no_read[] = "read b0 0 1\n", no_buffer[] = "buffer b0 0 unset\n";
 
-// Begins the script of a session. Where launches may need the word `orders`, it is of version 3, and, of a device that
-// doesn't know that, of version 2. An error's number, or 0.
+// The device has ended at what it doesn't know, and is started once more. An error's number, or 0.
+static int begin_again(session *s) {
+    close_device(s);
+    return open_device(s);
+}
+static void tell_once(bool *is_told, const char *line) {
+    if (!*is_told) tell("%s", line);
+    *is_told = true;
+}
+
+// Begins a script of version 3 with buffers that nobody set, if they are wanted and the device has such. An error's
+// number, or 0.
+static int begin_unset(session *s) {
+    static bool is_told;
+    if (zeroes_buffers()) return 0;
+    s->has_unset = begin_version(s, third, no_buffer);
+    int fault = s->has_unset ? 0 : begin_again(s);
+    if (!fault && !s->has_unset) tell_once(&is_told, "this clsim has no buffers that nobody set: new ones are zero");
+    return fault;
+}
+
+// Begins the script of a session. Where launches may need the word `orders`, or buffers the word `unset`, it is of
+// version 3, and, of a device that doesn't know that, of version 2. An error's number, or 0.
 static int begin_script(session *s) {
-    static const char second[] = "clsim 2\n", third[] = "clsim 3\n";
     static bool is_told;
     bool asks = orders_wanted() != ORDERS_NEVER;
-    int fault = 0;
-    s->has_orders = asks && begin_version(s, third);
+    int fault = begin_unset(s);
+    if (fault) return fault;
+    s->has_orders = asks && (s->has_unset || begin_version(s, third, no_read));
     if (asks && !s->has_orders) {
-        close_device(s);
-        fault = open_device(s);
-        if (!fault && begin_version(s, second) && !is_told) {
-            tell("this clsim has no launches with orders: a result that depends on the order of work-items is a fault");
-            is_told = true;
-        }
-    } else if (!asks && send(s->fd, second, sizeof second - 1, MSG_NOSIGNAL) < 0) lose(s, strerror(errno));
-    if (!fault && s->record) fputs(s->has_orders ? third : second, s->record);
+        fault = begin_again(s);
+        if (!fault && begin_version(s, second, no_read))
+            tell_once(&is_told, "this clsim has no launches with orders: a result that depends on the order of "
+                                "work-items is a fault");
+    } else if (!asks && !s->has_unset && send(s->fd, second, sizeof second - 1, MSG_NOSIGNAL) < 0)
+        lose(s, strerror(errno));
+    if (!fault && s->record) fputs(s->has_orders || s->has_unset ? third : second, s->record);
     return fault;
 }
 

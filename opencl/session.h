@@ -21,6 +21,10 @@ void session_record(session *s, bool on);
 // Whether a launch of it may have the word `orders`. A device is asked for that only where it may be wanted.
 bool session_has_orders(const session *s);
 
+// Whether a buffer of it may be made `unset`, so that nobody has set its bytes. A device is asked for that only where
+// it is wanted.
+bool session_has_unset(const session *s);
+
 // What becomes of a launch whose result depends on the order of its items (CLSIM_ORDERS).
 typedef enum {
     ORDERS_NEVER, // it is a fault as any other
@@ -40,6 +44,8 @@ char *explain_script(const char *script, size_t length);
 bool widens(void);
 // Whether private variables that are declared without a value are 0 (CLSIM_UNSET).
 bool zeroes_unset(void);
+// Whether new buffers are zero (CLSIM_ZERO), and not such as nobody has set.
+bool zeroes_buffers(void);
 // Whether accesses that the flags of their buffers forbid are told and made (CLSIM_FLAGS).
 bool goes_past_flags(void);
 // Runs `clsim widen` on all commands of a session so far. What it wrote, NULL where it didn't; the caller frees it.

@@ -36,6 +36,8 @@ def is_command(line, version):
     if name == "arg":
         return (len(words) == 4 and is_form(words[:2], "an")
                 and words[2] in ARGUMENTS and is_form(words[3:], ARGUMENTS[words[2]]))
+    if name == "buffer" and version == 3 and words and words[-1] == "unset" and len(words) == 3:
+        words.pop()
     if name == "launch" and version == 3 and words and words[-1] == "orders":
         words.pop()
     if name == "launch" and version >= 2 and words and words[-1] == "uniform":

@@ -69,6 +69,7 @@ COMMANDS = {
     "LocalTooLarge": "More local memory than a group may have",
     "InUse": "A release of what is in use",
     "OutOfMemory": "Memory that was refused",
+    "UnsetBytes": "A read of a byte that nothing has set",
     "bad_line": "A line that is no command of a script",
 }
 ALL = {**RULES, **REFUSALS, **COMMANDS}

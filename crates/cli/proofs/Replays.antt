@@ -3,20 +3,20 @@ use Rattle.std.proofs.Common.{◌≡◌, ℕ, ◌<◌, zero, suc, Bool, Option, 
 use Rattle.std.specs.Prelude.{Decides, slice_get}
 use Rattle.std.proofs.lemmas.List.Elements.{All-push}
 use Rattle.clmodel.specs.Law.{Reaches}
-use Rattle.clmodel.specs.Next.{launch_of}
+use Rattle.clmodel.specs.Launch as model
+use Rattle.launches.specs.Groups.{launch_in}
 use Rattle.clmodel.specs.Outcome.{events_of}
-use Rattle.clmodel.specs.Setup.{Setup}
 use Rattle.clmodel.specs.declared.fault.Fault.{Fault}
 use Rattle.clmodel.specs.declared.schedule.EventRun.{EventRun}
 use Rattle.clmodel.specs.declared.setup.Range.{Range}
-use Rattle.device.specs.Machine.{Machine, kernel_of, setup_of}
+use Rattle.device.specs.Machine.{Machine, setup_of}
 use Rattle.device.specs.Prepared.{IsPrepared}
 use Rattle.host_commands.specs.declared.command.Command.{Command}
 use Rattle.byte_io.specs.Sink.{Sink}
 use Rattle.item_step.specs.Launches as launches
 use Rattle.item_step.specs.declared.launch.Launch.{Launch}
-use Rattle.spaces.specs.Buffers.{bytes_in}
-use Rattle.spaces.specs.Tables.{Table}
+use Rattle.spaces.specs.declared.buffers.Buffers.{Buffers}
+use Rattle.device.proofs.Prepared.{prepared_on}
 use Rattle.cli.specs.Reading.{ReadsScript}
 use Rattle.cli.specs.Replaying.{HadMemory, Leads, Performs, Replays, ReadsFile, Unjudged, Unreplayed, Missed, Refused}
 use Rattle.simfile.specs.declared.faults.RunFault.{RunFault}
@@ -47,13 +47,12 @@ last_taken (y ∷ xs) (z ∷ rest) (suc n) x h e =
     last_taken xs rest n x (omega arith) tail
 
 -- a prepared launch that was replayed
-pub replays : {m : Machine} {kernel : List ℕ} {range : Range} (launch : Launch) (buffers : Table (List ℕ)) (f : Fault) (runs : List EventRun) (yes : Bool)
-    → IsPrepared m kernel range launch → buffers ≡ m.buffers
-    → Decides yes (Reaches (launch_of (launches.setup_of launch) (bytes_in buffers)) (events_of runs) f)
+pub replays : {m : Machine} {kernel : List ℕ} {range : Range} (launch : Launch) (buffers : Buffers) (f : Fault) (runs : List EventRun) (yes : Bool)
+    → IsPrepared m kernel range launch → buffers.bytes ≡ m.buffers → buffers.flags ≡ m.flags
+    → Decides yes (Reaches (launch_in (launches.setup_of launch) buffers) (events_of runs) f)
     → Replays m kernel range f runs yes
-replays {m} {kernel} {range} launch buffers f runs answer p e d =
-    let D : Setup → Table (List ℕ) → Type 0 = λ s b. Decides answer (Reaches (launch_of s (bytes_in b)) (events_of runs) f) in
-    record { admitted = p.admitted; decides = subst (λ (b : Table (List ℕ)). D (setup_of m (kernel_of m kernel) range) b) e (subst (λ (s : Setup). D s buffers) p.setup d) }
+replays {m} {kernel} {range} launch buffers f runs answer p e set d =
+    record { admitted = p.admitted; decides = subst (λ (l : model.Launch). Decides answer (Reaches l (events_of runs) f)) (prepared_on m kernel range launch buffers p e set) d }
 
 -- a replay that came to no answer behind its two texts
 pub unreplayed : {rest rest' : Option (List ℕ)} {commands : List Command} {ticket : ℕ} {f : Fault} {runs : List EventRun} (configuration : Configuration) (a a' b b' : ℕ) (s : Sink) (why : RunFault)

@@ -2,12 +2,11 @@
 use Rattle.std.specs.Prelude.{◌≡◌, ℕ, Bool, true, false, Decides, ⊤, Option, None, Some, Result, Ok, Err, List, [], codes, take, slice_get}
 use Rattle.std.specs.List.{All}
 use Rattle.clmodel.specs.Law.{Reaches}
-use Rattle.clmodel.specs.Next.{launch_of}
 use Rattle.clmodel.specs.Outcome.{events_of}
 use Rattle.clmodel.specs.declared.fault.Fault.{Fault}
 use Rattle.clmodel.specs.declared.schedule.EventRun.{EventRun}
 use Rattle.clmodel.specs.declared.setup.Range.{Range}
-use Rattle.device.specs.Machine.{Machine, Step, opening, first, row, launch_row, kernel_of, setup_of, bytes_of}
+use Rattle.device.specs.Machine.{Machine, Step, opening, first, row, launch_at, launch_row, kernel_of, setup_of}
 use Rattle.host_commands.specs.declared.command.Command.{Command}
 use Rattle.host_commands.specs.declared.command.Command.TheVariants as command
 use Rattle.host_commands.specs.declared.command.Refusal.{Refusal}
@@ -43,7 +42,7 @@ pub record ComesTo (configuration : Configuration) (commands : List Command) (ti
 -- a launch that its row doesn't refuse: yes exactly where the schedule leads it to a state that shows the fault
 pub record Replays (m : Machine) (kernel : List ℕ) (range : Range) (fault : Fault) (runs : List EventRun) (yes : Bool) : Type 0 where
   pub admitted : first (launch_row m kernel range) ≡ None
-  pub decides : Decides yes (Reaches (launch_of (setup_of m (kernel_of m kernel) range) (bytes_of m)) (events_of runs) fault)
+  pub decides : Decides yes (Reaches (launch_at m (setup_of m (kernel_of m kernel) range)) (events_of runs) fault)
 
 -- the bytes that are read are a schedule file
 pub record ReadsFile (rest : Option (List ℕ)) (ticket : ℕ) (fault : Fault) (runs : List EventRun) : Type 0 where

@@ -1,5 +1,5 @@
 -- Small launches, whose canonical runs are computed by the definitions.
-use Rattle.std.proofs.Common.{◌≡◌, ℕ, zero, suc, ◌+◌, ◌-◌, ℤ, pos, negsuc, true, false, Option, None, Some, List, [], ◌∷◌, replicate, refl}
+use Rattle.std.proofs.Common.{◌≡◌, ℕ, zero, suc, ◌+◌, ◌-◌, ℤ, pos, negsuc, true, false, nat_le, Option, None, Some, List, [], ◌∷◌, replicate, refl}
 use Rattle.clmodel.specs.Cells.{written, updated_word}
 use Rattle.clmodel.specs.Launch.{Launch, conflict_between, conflict}
 use Rattle.clmodel.specs.Run.{State, Events, start, step, left}
@@ -90,6 +90,7 @@ launch next =
       items = 2;
       group_size = 2;
       buffers = replicate 8 0 ∷ [];
+      unset = λ number byte. false;
       local_sizes = 8 ∷ [];
       next = next;
       buffer_names = (97 ∷ []) ∷ [];
@@ -212,3 +213,39 @@ before_first = faults (launch (at_element (negsuc 0))) 9 (fault.Bounds 0 kind.Lo
 pub after_last : Faults (launch (at_element (pos 2))) [] (fault.Bounds 0 kind.Load (location.Buffer (97 ∷ [])) (pos 2))
 unfolding launch at_element trace after_turn after_step turn
 after_last = faults (launch (at_element (pos 2))) 9 (fault.Bounds 0 kind.Load (location.Buffer (97 ∷ [])) (pos 2)) refl
+
+-- ---- a buffer whose bytes from 4 on are unset
+
+pub half_launch : (ℕ → List Answer → Action) → Launch
+half_launch next = record (launch next) { unset = λ number byte. nat_le 4 byte }
+
+-- item 0 loads element 1
+pub load_unset : Faults (half_launch (at_element (pos 1))) [] (fault.Unset 0 kind.Load (location.Buffer (97 ∷ [])) 4)
+unfolding half_launch launch at_element trace after_turn after_step turn
+load_unset = faults (half_launch (at_element (pos 1))) 9 (fault.Unset 0 kind.Load (location.Buffer (97 ∷ [])) 4) refl
+
+-- both load element 0, whose bytes are set
+pub load_set : Leaves (half_launch (at_element (pos 0))) (Item 0 ∷ Item 1 ∷ [])
+    ((Some 0 ∷ Some 0 ∷ Some 0 ∷ Some 0 ∷ None ∷ None ∷ None ∷ None ∷ []) ∷ [])
+unfolding half_launch launch at_element trace after_turn after_step turn step conflict conflict_between
+load_set = leaves (half_launch (at_element (pos 0))) 9 refl
+
+-- an update reads, and of an atomic operation that reads unset bytes the first is told
+pub update_unset : Faults (half_launch add) [] (fault.Unset 0 (kind.Update class.Add) (location.Buffer (97 ∷ [])) 4)
+unfolding half_launch launch add trace after_turn after_step turn
+update_unset = faults (half_launch add) 9 (fault.Unset 0 (kind.Update class.Add) (location.Buffer (97 ∷ [])) 4) refl
+
+-- each item's store sets its bytes
+pub stores_set : Leaves (half_launch own) (Item 0 ∷ Item 1 ∷ []) (two 5 6)
+unfolding half_launch launch own two trace after_turn after_step turn step conflict conflict_between written
+stores_set = leaves (half_launch own) 9 refl
+
+-- a store of one byte sets one
+pub one_byte : ℕ → List Answer → Action
+one_byte zero [] = action.Access (object.Buffer 0) (pos 5) (Store One 7)
+one_byte (suc _) [] = action.End
+one_byte _ (_ ∷ _) = action.End
+
+pub one_set : Leaves (half_launch one_byte) (Item 0 ∷ []) ((Some 0 ∷ Some 0 ∷ Some 0 ∷ Some 0 ∷ None ∷ Some 7 ∷ None ∷ None ∷ []) ∷ [])
+unfolding half_launch launch one_byte trace after_turn after_step turn step conflict conflict_between written
+one_set = leaves (half_launch one_byte) 9 refl

@@ -1,6 +1,6 @@
 -- One region of memory: its bytes, and what a load, a store and an atomic update do to them.
 -- Numbers of sections are those of OpenCL 1.2, or of C99 where that is said; "own" is what this project decided.
-use Rattle.std.specs.Prelude.{ℕ, zero, suc, ◌+◌, ◌-◌, ◌*◌, ◌/◌, ◌%◌, ◌^◌, ◌==◌, min, max, Bool, true, false, ◌&&◌, nat_le, nat_lt, if◌then◌else◌, Option, None, Some, List, [], ◌∷◌, bit_and, bit_or, bit_xor}
+use Rattle.std.specs.Prelude.{ℕ, zero, suc, ◌+◌, ◌-◌, ◌*◌, ◌/◌, ◌%◌, ◌^◌, ◌==◌, min, max, Bool, true, false, ◌&&◌, nat_le, nat_lt, if◌then◌else◌, Option, None, Some, List, [], ◌∷◌, bit_and, bit_or, bit_xor, not, map, slice_get}
 use Rattle.std.specs.Option.{option_map}
 use Rattle.clmodel.specs.declared.access.Width.{Width}
 use Rattle.clmodel.specs.declared.access.Width.TheVariants.{One, Two, Four, Eight}
@@ -130,3 +130,21 @@ abbrev pub cells_of : List (Option ℕ) → Cells
 cells_of [] byte = None
 cells_of (cell ∷ cells) zero = cell
 cells_of (cell ∷ cells) (suc byte) = cells_of cells byte
+
+-- a byte is unset by its flag: it has one, and that isn't 0 (own)
+abbrev pub is_unset : Option ℕ → Bool
+is_unset None = false
+is_unset (Some flag) = not (flag == 0)
+
+-- a byte is unset by a row of flags, the first for the first byte. A byte behind the row is set (own).
+abbrev pub is_flagged : List ℕ → ℕ → Bool
+is_flagged flags byte = is_unset (slice_get flags byte)
+
+-- cells from one on, without those that are unset (C99 6.7.8)
+abbrev pub masked : (ℕ → Bool) → ℕ → List (Option ℕ) → List (Option ℕ)
+masked unset byte [] = []
+masked unset byte (cell ∷ cells) = (if unset byte then None else cell) ∷ masked unset (suc byte) cells
+
+-- what bytes are as cells, beside a row of flags (5.2.1; C99 6.7.8)
+abbrev pub held_cells : List ℕ → List ℕ → List (Option ℕ)
+held_cells bytes flags = masked (is_flagged flags) 0 (map Some bytes)

@@ -1,6 +1,6 @@
 -- A launch: what its items do next, which places there are, and what is kept of an access.
 -- Numbers of sections are those of OpenCL 1.2, or of C99 where that is said; "own" is what this project decided.
-use Rattle.std.specs.Prelude.{ℕ, ◌+◌, ◌-◌, ◌*◌, ◌/◌, ◌==◌, ℤ, pos, negsuc, Bool, true, false, not, ◌&&◌, ◌||◌, nat_le, if◌then◌else◌, Option, None, Some, List, [], length, slice_index, slice_index_or}
+use Rattle.std.specs.Prelude.{◌≡◌, ℕ, ◌+◌, ◌-◌, ◌*◌, ◌/◌, ◌==◌, ℤ, pos, negsuc, Bool, true, false, not, ◌&&◌, ◌||◌, nat_le, if◌then◌else◌, Option, None, Some, List, [], length, slice_index, slice_index_or}
 use Rattle.clmodel.specs.Cells.{byte_count, byte_of, covers, width_of}
 use Rattle.clmodel.specs.declared.access.Class.{Class}
 use Rattle.clmodel.specs.declared.access.Class.TheVariants as class
@@ -23,17 +23,24 @@ use Rattle.clmodel.specs.declared.fault.Location.TheVariants as location
 
 -- A launch of `items` items, `group_size` to a group (3.2, 5.8). `next` gives an item's action once the listed answers
 -- are used up, one for each earlier action. The names are those that a reply gives to buffers, to local objects, and to
--- what the source names. In a uniform launch two stores that leave the same byte don't conflict (own).
+-- what the source names. In a uniform launch two stores that leave the same byte don't conflict (own). `unset` holds of
+-- the bytes of buffers, each by its buffer's number and its own, that have no value at the start (5.2.1; C99 6.7.8:
+-- indeterminate).
 pub record Launch : Type 0 where
   pub items : ℕ
   pub group_size : ℕ
   pub buffers : List (List ℕ)
+  pub unset : ℕ → ℕ → Bool
   pub local_sizes : List ℕ
   pub next : ℕ → List Answer → Action
   pub buffer_names : List (List ℕ)
   pub local_names : List (List ℕ)
   pub source_names : List (List ℕ)
   pub uniform : Bool
+
+-- all bytes of a launch's buffers are set at the start (own)
+abbrev pub AllSet : Launch → Type 0
+AllSet launch = (number byte : ℕ) → launch.unset number byte ≡ false
 
 -- two regions are one: local objects of different groups are different (3.3)
 abbrev pub same_region : Region → Region → Bool

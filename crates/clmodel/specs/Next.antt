@@ -1,6 +1,6 @@
 -- What an item does next: plain evaluation of the kernel's tree, as a tree of actions (OpenCL 1.2, 6.3 to 6.12; C99 6.5
 -- and 6.8).
-use Rattle.std.specs.Prelude.{ℕ, ◌+◌, pos, Option, None, Some, List, [], ◌∷◌, map, slice_index_or}
+use Rattle.std.specs.Prelude.{ℕ, ◌+◌, pos, Bool, false, Option, None, Some, List, [], ◌∷◌, map, slice_index_or}
 use Rattle.clnum.specs.Operations.{wrapped}
 use Rattle.clmodel.specs.Launch.{Launch}
 use Rattle.clmodel.specs.Setup.{Setup, place_of, buffer_names, local_objects, kernel_in, functions_before, item_count, group_items}
@@ -59,13 +59,14 @@ unfoldable pub next : Setup → ℕ → List Answer → Action
 next setup item answers =
     walk (run_of setup item (functions_before setup.program.functions setup.kernel) (kernel_in setup.program.functions setup.kernel)) setup.budget answers
 
--- the launch of a setup on buffers, whose bytes are found by their names
-abbrev pub launch_of : Setup → (List ℕ → List ℕ) → Launch
-launch_of setup bytes =
+-- the launch of a setup on buffers, whose bytes, and which of these are unset, are found by their names
+abbrev pub launch_on : Setup → (List ℕ → List ℕ) → (List ℕ → ℕ → Bool) → Launch
+launch_on setup bytes is_unset =
     record {
       items = item_count setup.range;
       group_size = group_items setup.range;
       buffers = map bytes (buffer_names setup);
+      unset = λ number. is_unset (slice_index_or (buffer_names setup) number []);
       local_sizes = map (λ o. o.size) (local_objects setup);
       next = next setup;
       buffer_names = buffer_names setup;
@@ -73,3 +74,7 @@ launch_of setup bytes =
       source_names = setup.program.names;
       uniform = setup.range.uniform;
     }
+
+-- the launch of a setup on buffers all of whose bytes are set
+abbrev pub launch_of : Setup → (List ℕ → List ℕ) → Launch
+launch_of setup bytes = launch_on setup bytes (λ name byte. false)

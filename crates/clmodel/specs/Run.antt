@@ -32,9 +32,10 @@ pub record State : Type 0 where
   pub local_interval : ℕ → ℕ
   pub global_interval : ℕ → ℕ
 
--- what the regions hold at the start: the buffers their bytes, and the rest is unset (5.2.1, 6.5.2)
+-- what the regions hold at the start: the buffers their bytes but those that are unset, and the rest is unset (5.2.1,
+-- 6.5.2; C99 6.7.8)
 abbrev pub initial : Launch → Memory
-initial launch (region.Buffer number) byte = slice_get (slice_index_or launch.buffers number []) byte
+initial launch (region.Buffer number) byte = if launch.unset number byte then None else slice_get (slice_index_or launch.buffers number []) byte
 initial launch (region.Local group number) byte = None
 
 -- the state in which a launch starts (3.2)

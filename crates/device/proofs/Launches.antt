@@ -1,21 +1,24 @@
 -- From how a launch ended to the machine's answer.
-use Rattle.std.proofs.Common.{◌≡◌, ℕ, Bool, true, false, List, Option, None, Some, ap, subst, ◌∙◌, Vec}
+use Rattle.std.proofs.Common.{◌≡◌, ℕ, Bool, true, false, List, Option, None, Some, map, ap, ap₂, subst, ◌∙◌, Vec}
 use Rattle.std.proofs.lemmas.Bool.{false≢true}
 use Rattle.std.specs.declared.alloc.Global.{Global}
 use Rattle.std.specs.Option.{MatchOption}
 use Rattle.clmodel.specs.Launch.{Launch}
-use Rattle.clmodel.specs.Next.{launch_of}
-use Rattle.clmodel.specs.Setup.{Setup}
+use Rattle.clmodel.specs.Setup.{Setup, buffer_names}
 use Rattle.clmodel.specs.declared.fault.Fault.{Fault}
 use Rattle.clmodel.specs.declared.schedule.EventRun.{EventRun}
 use Rattle.clmodel.specs.declared.setup.Range.{Range}
-use Rattle.spaces.specs.Changes.{Changed, all_with_changes, table_with_changes}
+use Rattle.clmodel.specs.declared.outcome.Contents.{Contents}
+use Rattle.group_join.specs.Ends.{all_cells}
+use Rattle.spaces.specs.Buffers.{row_in}
+use Rattle.spaces.specs.Changes.{Changed, all_with_changes}
+use Rattle.spaces.specs.FlagRows.{both_with_changes, with_all_flags}
 use Rattle.spaces.specs.Tables.{Table, with_values}
 use Rattle.host_commands.specs.declared.command.Command.TheVariants as command
 use Rattle.host_commands.specs.declared.command.Refusal.{Refusal}
 use Rattle.host_commands.specs.declared.command.Reply.TheVariants as reply
 use Rattle.device.specs.Ends.{EndsBy}
-use Rattle.device.specs.Machine.{Machine, Answers, Launches, LaunchesBy, LaunchesOrdered, first, row, kernel_of, setup_of, bytes_of}
+use Rattle.device.specs.Machine.{Machine, Answers, Launches, LaunchesBy, LaunchesOrdered, first, holding, launch_at, row, kernel_of, setup_of}
 use Rattle.device.specs.Prepared.{Came, Comes}
 use Rattle.device.specs.declared.prepared.Launched.{Launched}
 use Rattle.device.specs.declared.running.RunEnd.{RunEnd}
@@ -37,46 +40,56 @@ ordered_by true old new setup has h = h
 ordered_by false old new setup has h = absurd (false≢true has)
 
 -- a report is that of the run by which the launch is answered
-fault_by : (orders : Bool) (old new : Machine) (setup : Setup) (fault : Fault) (schedule : List EventRun) → EndsBy orders (launch_of setup (bytes_of old)) (Faulted fault schedule) → new ≡ old
+fault_by : (orders : Bool) (old new : Machine) (setup : Setup) (fault : Fault) (schedule : List EventRun) → EndsBy orders (launch_at old setup) (map (row_in old.flags) (buffer_names setup)) (Faulted fault schedule) → new ≡ old
     → LaunchesBy orders old setup (reply.Fault fault schedule) new
 fault_by true old new setup fault schedule h same = (h.0, h.1, h.2, same)
 fault_by false old new setup fault schedule h same = (h.0, h.1, h.2, same)
 
+-- a machine with these bytes and flags
+abbrev pub with_both : Machine → Table (List ℕ) × Table (List ℕ) → Machine
+with_both m both = record m { buffers = both.0; flags = both.1 }
+
 -- a launch that ended clean
-pub clean_answers : (old new : Machine) (kernel : List ℕ) (range : Range) (orders : Bool) (launched : Launched) (changes : Vec Changed Global)
-    → Comes old kernel range orders launched → launched.end ≡ Clean changes
-    → new ≡ record old { buffers = table_with_changes old.buffers launched.names.items changes.items } → Answers old (command.Launch kernel range orders) reply.Clean new
-clean_answers old new kernel range orders launched changes comes is gives =
+pub clean_answers : (old new : Machine) (kernel : List ℕ) (range : Range) (orders : Bool) (launched : Launched) (changes cleared : Vec Changed Global)
+    → Comes old kernel range orders launched → launched.end ≡ Clean changes cleared
+    → new ≡ with_both old (both_with_changes old.buffers old.flags launched.names.items changes.items cleared.items) → Answers old (command.Launch kernel range orders) reply.Clean new
+clean_answers old new kernel range orders launched changes cleared comes is gives =
     let setup : Setup = setup_of old (kernel_of old kernel) range in
-    let launch : Launch = launch_of setup (bytes_of old) in
-    let came : Came setup (bytes_of old) orders launched = comes.came in
-    let contents : List (List ℕ) = all_with_changes launch.buffers changes.items in
-    let claims : EndsBy orders launch (Clean changes) = subst (λ (end : RunEnd). EndsBy orders launch end) is came.ends in
+    let launch : Launch = launch_at old setup in
+    let flags : List (List ℕ) = map (row_in old.flags) (buffer_names setup) in
+    let came : Came old setup orders launched = comes.came in
+    let contents : List (List (Option ℕ)) = all_cells (all_with_changes launch.buffers changes.items) (all_with_changes flags cleared.items) in
+    let claims : EndsBy orders launch flags (Clean changes cleared) = subst (λ (end : RunEnd). EndsBy orders launch flags end) is came.ends in
     unrefused (first (row old (command.Launch kernel range orders))) (LaunchesBy orders old setup reply.Clean new)
     (λ refusal. (reply.Clean ≡ reply.Refused refusal) × (new ≡ old)) comes.admitted
     (clean_by orders old new setup (
       contents,
       claims,
       gives
-          ∙ ap (λ (names : List (List ℕ)). record old { buffers = table_with_changes old.buffers names changes.items }) came.names
-          ∙ ap (λ (buffers : Table (List ℕ)). record old { buffers = buffers }) (changes_written old.buffers setup changes.items),
+          ∙ ap (λ (names : List (List ℕ)). with_both old (both_with_changes old.buffers old.flags names changes.items cleared.items)) came.names
+          ∙ ap (with_both old) (changes_written old setup changes.items cleared.items),
     ))
 
 -- a launch that ended ordered
-pub ordered_answers : (old new : Machine) (kernel : List ℕ) (range : Range) (orders : Bool) (launched : Launched) (contents : Vec (List ℕ) Global)
+pub ordered_answers : (old new : Machine) (kernel : List ℕ) (range : Range) (orders : Bool) (launched : Launched) (contents : Vec Contents Global)
     → Comes old kernel range orders launched → launched.end ≡ Ordered contents
-    → new ≡ record old { buffers = with_values old.buffers launched.names.items contents.items } → Answers old (command.Launch kernel range orders) reply.Ordered new
+    → new ≡ record old { buffers = with_values old.buffers launched.names.items (map (λ c. c.bytes) contents.items); flags = with_all_flags old.flags launched.names.items (map (λ c. c.flags) contents.items) }
+    → Answers old (command.Launch kernel range orders) reply.Ordered new
 ordered_answers old new kernel range orders launched contents comes is gives =
     let setup : Setup = setup_of old (kernel_of old kernel) range in
-    let launch : Launch = launch_of setup (bytes_of old) in
-    let came : Came setup (bytes_of old) orders launched = comes.came in
-    let claims : EndsBy orders launch (Ordered contents) = subst (λ (end : RunEnd). EndsBy orders launch end) is came.ends in
+    let launch : Launch = launch_at old setup in
+    let flags : List (List ℕ) = map (row_in old.flags) (buffer_names setup) in
+    let came : Came old setup orders launched = comes.came in
+    let claims : EndsBy orders launch flags (Ordered contents) = subst (λ (end : RunEnd). EndsBy orders launch flags end) is came.ends in
     unrefused (first (row old (command.Launch kernel range orders))) (LaunchesBy orders old setup reply.Ordered new)
     (λ refusal. (reply.Ordered ≡ reply.Refused refusal) × (new ≡ old)) comes.admitted
     (ordered_by orders old new setup claims.0 (
-      contents.items,
-      claims.1,
-      gives ∙ ap (λ (names : List (List ℕ)). record old { buffers = with_values old.buffers names contents.items }) came.names,
+      claims.1.0,
+      claims.1.1,
+      gives
+          ∙ ap (λ (names : List (List ℕ)). record old { buffers = with_values old.buffers names (map (λ c. c.bytes) contents.items); flags = with_all_flags old.flags names (map (λ c. c.flags) contents.items) }) came.names
+          ∙ ap₂ (λ (bytes : List (List ℕ)) (rows : List (List ℕ)). record old { buffers = with_values old.buffers (buffer_names setup) bytes; flags = with_all_flags old.flags (buffer_names setup) rows })
+          claims.1.2.bytes_are claims.1.2.flags_are,
     ))
 
 -- a launch that ended with a fault
@@ -85,9 +98,10 @@ pub fault_answers : (old new : Machine) (kernel : List ℕ) (range : Range) (ord
     → Answers old (command.Launch kernel range orders) (reply.Fault fault schedule) new
 fault_answers old new kernel range orders launched fault schedule comes is same =
     let setup : Setup = setup_of old (kernel_of old kernel) range in
-    let launch : Launch = launch_of setup (bytes_of old) in
-    let came : Came setup (bytes_of old) orders launched = comes.came in
-    let claims : EndsBy orders launch (Faulted fault schedule) = subst (λ (end : RunEnd). EndsBy orders launch end) is came.ends in
+    let launch : Launch = launch_at old setup in
+    let came : Came old setup orders launched = comes.came in
+    let flags : List (List ℕ) = map (row_in old.flags) (buffer_names setup) in
+    let claims : EndsBy orders launch flags (Faulted fault schedule) = subst (λ (end : RunEnd). EndsBy orders launch flags end) is came.ends in
     unrefused (first (row old (command.Launch kernel range orders))) (LaunchesBy orders old setup (reply.Fault fault schedule) new)
     (λ refusal. (reply.Fault fault schedule ≡ reply.Refused refusal) × (new ≡ old)) comes.admitted
     (fault_by orders old new setup fault schedule claims same)

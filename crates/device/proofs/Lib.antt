@@ -1,4 +1,6 @@
 pub mod Programs
+mod Merged
+pub mod Prepared
 pub mod Runs
 pub mod Written
 pub mod Launches
@@ -6,5 +8,4 @@ pub mod Kept
 pub mod Names
 pub mod Arguments
 pub mod Removed
-mod Merged
 pub mod OneLaunch

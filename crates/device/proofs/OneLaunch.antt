@@ -1,9 +1,8 @@
 -- A launch has one answer, out of memory aside.
-use Rattle.std.proofs.Common.{◌≡◌, ℕ, true, false, Option, Some, List, [], ◌∷◌, map, refl, ap, ap₂, sym, ◌∙◌}
+use Rattle.std.proofs.Common.{◌≡◌, ℕ, true, false, Option, List, refl, ap, ap₂, sym, ◌∙◌}
 use Rattle.clmodel.specs.Launch as launches
 use Rattle.clmodel.specs.Law as law
 use Rattle.clmodel.specs.Law.{CleanWith, OneRun, Reaches, Reports, Shows, turn}
-use Rattle.clmodel.specs.Next.{launch_of}
 use Rattle.clmodel.specs.Outcome.{events_of}
 use Rattle.clmodel.specs.Run.{Events, State, left, start}
 use Rattle.clmodel.specs.Setup.{Setup, buffer_names}
@@ -11,7 +10,6 @@ use Rattle.clmodel.specs.declared.access.Clash.TheVariants.{Order}
 use Rattle.clmodel.specs.declared.fault.Fault.{Fault}
 use Rattle.clmodel.specs.declared.fault.Fault.TheVariants as fault
 use Rattle.clmodel.proofs.Turns.{finishes_makes, finishes_reports, reports_inj, reports_makes}
-use Rattle.spaces.specs.Tables.{with_values}
 use Rattle.ordered_runs.proofs.Runs.{ordered_after}
 use Rattle.ordered_runs.specs.Laws.{OneOrderedRun}
 use Rattle.ordered_runs.specs.Ordered as ordered
@@ -19,33 +17,8 @@ use Rattle.ordered_runs.specs.Ordered.{HaveMet, ordered_turn}
 use Rattle.host_commands.specs.declared.command.Reply.{Reply}
 use Rattle.host_commands.specs.declared.command.Reply.TheVariants as reply
 use Rattle.device.specs.Laws.{LaunchesOnce}
-use Rattle.device.specs.Machine.{Machine, IsOrderedReport, IsReported, Launches, LaunchesOrdered, OrderedWith, bytes_of}
-use Rattle.device.proofs.Merged.{one_schedule, same_head, same_tail}
-
--- ---- contents
-
-some_of : (m n : ℕ) → Some m ≡ Some n → m ≡ n
-some_of m n e = cc
-
-no_cells : {A : Type 0} (x : A) (xs : List A) → [] ≡ x ∷ xs → ⊥
-no_cells x xs e = cc
-
-one_row : (xs ys : List ℕ) → map Some xs ≡ map Some ys → xs ≡ ys
-one_row [] [] e = refl
-one_row [] (y ∷ ys) e = absurd (no_cells (Some y) (map Some ys) e)
-one_row (x ∷ xs) [] e = absurd (no_cells (Some x) (map Some xs) (sym e))
-one_row (x ∷ xs) (y ∷ ys) e =
-    ap₂ (λ z zs. z ∷ zs) (some_of x y (same_head (Some x) (Some y) (map Some xs) (map Some ys) e)) (one_row xs ys (same_tail (Some x) (Some y) (map Some xs) (map Some ys) e))
-
-abbrev cells : List ℕ → List (Option ℕ)
-cells bytes = map Some bytes
-
-one_content : (xs ys : List (List ℕ)) → map cells xs ≡ map cells ys → xs ≡ ys
-one_content [] [] e = refl
-one_content [] (y ∷ ys) e = absurd (no_cells (cells y) (map cells ys) e)
-one_content (x ∷ xs) [] e = absurd (no_cells (cells x) (map cells xs) (sym e))
-one_content (x ∷ xs) (y ∷ ys) e =
-    ap₂ (λ z zs. z ∷ zs) (one_row x y (same_head (cells x) (cells y) (map cells xs) (map cells ys) e)) (one_content xs ys (same_tail (cells x) (cells y) (map cells xs) (map cells ys) e))
+use Rattle.device.specs.Machine.{Machine, IsOrderedReport, IsReported, Launches, LaunchesOrdered, OrderedWith, holding, launch_at}
+use Rattle.device.proofs.Merged.{one_schedule}
 
 -- ---- runs
 
@@ -100,12 +73,12 @@ one_left one launch contents others w v =
 one_launch : OneRun → (old : Machine) (setup : Setup) (r s : Reply) (new other : Machine) → Launches old setup r new → Launches old setup s other → (r ≡ s) × (new ≡ other)
 one_launch one old setup reply.Clean reply.Clean new other x y =
     let last = x.1.complete.1 in
-    let same = one_content x.0 y.0 (sym last.3 ∙ y.1.always x.1.complete.0 last.0 last.1 last.2) in
-    (refl, x.2 ∙ ap (λ (contents : List (List ℕ)). record old { buffers = with_values old.buffers (buffer_names setup) contents }) same ∙ sym y.2)
-one_launch one old setup reply.Clean (reply.Fault g t) new other x y = absurd (clean_unreported (launch_of setup (bytes_of old)) (map cells x.0) (events_of t) g x.1 y.0)
-one_launch one old setup (reply.Fault f s) reply.Clean new other x y = absurd (clean_unreported (launch_of setup (bytes_of old)) (map cells y.0) (events_of s) f y.1 x.0)
+    let same : x.0 ≡ y.0 = sym last.3 ∙ y.1.always x.1.complete.0 last.0 last.1 last.2 in
+    (refl, x.2 ∙ ap (holding old (buffer_names setup)) same ∙ sym y.2)
+one_launch one old setup reply.Clean (reply.Fault g t) new other x y = absurd (clean_unreported (launch_at old setup) x.0 (events_of t) g x.1 y.0)
+one_launch one old setup (reply.Fault f s) reply.Clean new other x y = absurd (clean_unreported (launch_at old setup) y.0 (events_of s) f y.1 x.0)
 one_launch one old setup (reply.Fault f s) (reply.Fault g t) new other x y =
-    let same = one_report one (launch_of setup (bytes_of old)) (events_of s) (events_of t) f g x.1 y.1 in
+    let same = one_report one (launch_at old setup) (events_of s) (events_of t) f g x.1 y.1 in
     (ap₂ (λ h k. reply.Fault h k) same.1 (one_schedule s t x.2 y.2 same.0), x.3 ∙ sym y.3)
 one_launch one old setup reply.Done s new other x y = absurd x
 one_launch one old setup (reply.Data xs) s new other x y = absurd x
@@ -122,21 +95,21 @@ one_launch one old setup (reply.Fault f s) (reply.Refused why) new other x y = a
 
 one_ordered : OneRun → OneOrderedRun → (old : Machine) (setup : Setup) (r s : Reply) (new other : Machine) → LaunchesOrdered old setup r new → LaunchesOrdered old setup s other → (r ≡ s) × (new ≡ other)
 one_ordered one again old setup reply.Clean reply.Clean new other x y = one_launch one old setup reply.Clean reply.Clean new other x y
-one_ordered one again old setup reply.Clean reply.Ordered new other x y = absurd (clean_unmet (launch_of setup (bytes_of old)) (map cells x.0) (map cells y.0) x.1 y.1)
+one_ordered one again old setup reply.Clean reply.Ordered new other x y = absurd (clean_unmet (launch_at old setup) x.0 y.0 x.1 y.1)
 one_ordered one again old setup reply.Clean (reply.Fault g t) new other x y =
-    absurd (clean_unreported (launch_of setup (bytes_of old)) (map cells x.0) (events_of t) g x.1 y.0)
-one_ordered one again old setup reply.Ordered reply.Clean new other x y = absurd (clean_unmet (launch_of setup (bytes_of old)) (map cells y.0) (map cells x.0) y.1 x.1)
+    absurd (clean_unreported (launch_at old setup) x.0 (events_of t) g x.1 y.0)
+one_ordered one again old setup reply.Ordered reply.Clean new other x y = absurd (clean_unmet (launch_at old setup) y.0 x.0 y.1 x.1)
 one_ordered one again old setup reply.Ordered reply.Ordered new other x y =
-    let same = one_content x.0 y.0 (one_left again (launch_of setup (bytes_of old)) (map cells x.0) (map cells y.0) x.1 y.1) in
-    (refl, x.2 ∙ ap (λ (contents : List (List ℕ)). record old { buffers = with_values old.buffers (buffer_names setup) contents }) same ∙ sym y.2)
+    let same = one_left again (launch_at old setup) x.0 y.0 x.1 y.1 in
+    (refl, x.2 ∙ ap (holding old (buffer_names setup)) same ∙ sym y.2)
 one_ordered one again old setup reply.Ordered (reply.Fault g t) new other x y =
-    absurd (unreported again (launch_of setup (bytes_of old)) (map cells x.0) (events_of t) g x.1 y.1)
+    absurd (unreported again (launch_at old setup) x.0 (events_of t) g x.1 y.1)
 one_ordered one again old setup (reply.Fault f s) reply.Clean new other x y =
-    absurd (clean_unreported (launch_of setup (bytes_of old)) (map cells y.0) (events_of s) f y.1 x.0)
+    absurd (clean_unreported (launch_at old setup) y.0 (events_of s) f y.1 x.0)
 one_ordered one again old setup (reply.Fault f s) reply.Ordered new other x y =
-    absurd (unreported again (launch_of setup (bytes_of old)) (map cells y.0) (events_of s) f y.1 x.1)
+    absurd (unreported again (launch_at old setup) y.0 (events_of s) f y.1 x.1)
 one_ordered one again old setup (reply.Fault f s) (reply.Fault g t) new other x y =
-    let same = one_ordered_report again (launch_of setup (bytes_of old)) (events_of s) (events_of t) f g x.1 y.1 in
+    let same = one_ordered_report again (launch_at old setup) (events_of s) (events_of t) f g x.1 y.1 in
     (ap₂ (λ h k. reply.Fault h k) same.1 (one_schedule s t x.2 y.2 same.0), x.3 ∙ sym y.3)
 one_ordered one again old setup reply.Done s new other x y = absurd x
 one_ordered one again old setup (reply.Data xs) s new other x y = absurd x

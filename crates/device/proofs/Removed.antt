@@ -1,5 +1,5 @@
 -- Names that were removed.
-use Rattle.std.proofs.Common.{◌≡◌, ℕ, Bool, true, false, not, cond, ◌&&◌, List, [], ◌∷◌, Option, None, Some, is_some, map, refl, ap, sym, ◌∙◌, subst}
+use Rattle.std.proofs.Common.{◌≡◌, ℕ, Bool, true, false, not, cond, ◌&&◌, List, [], ◌∷◌, Option, None, Some, is_some, map, refl, ap, ap₂, sym, ◌∙◌, subst}
 use Rattle.std.proofs.lemmas.List.Elements.{All-nil, All-cons, All-head, All-tail}
 use Rattle.std.proofs.lemmas.Map.Views.{All-map-remove_entry}
 use Rattle.std.specs.List.{list_any}
@@ -96,7 +96,7 @@ neither_of_two false b x y D R p q d = cc
 neither_of_two true true x y D R p q d = cc
 
 pub release_answers : (old new : Machine) (name : List ℕ) → is_used old name ≡ true → is_in_use old name ≡ false
-    → new ≡ record old { buffers = remove_entry (is name) old.buffers; programs = remove_entry (is name) old.programs; kernels = remove_entry (is name) old.kernels }
+    → new ≡ record old { buffers = remove_entry (is name) old.buffers; flags = remove_entry (is name) old.flags; programs = remove_entry (is name) old.programs; kernels = remove_entry (is name) old.kernels }
     → Answers old (command.Release name) reply.Done new
 release_answers old new name used free is_new =
     neither_of_two (is_used old name) (is_in_use old name) NoSuchName InUse (Does old (command.Release name) reply.Done new) _ used free (refl, is_new)
@@ -114,11 +114,10 @@ unheld_of old programs name are free =
     ∙ (or_parts _ _ free).1
 
 -- a machine without a name
-pub released : (old : Machine) (buffers : Table (List ℕ)) (programs : Table Program) (kernels : Table KernelState) (name : List ℕ)
-    → buffers ≡ remove_entry (is name) old.buffers → programs ≡ remove_entry (is name) old.programs → kernels ≡ remove_entry (is name) old.kernels
-    → record old { buffers = buffers; programs = programs; kernels = kernels }
-    ≡ record old { buffers = remove_entry (is name) old.buffers; programs = remove_entry (is name) old.programs; kernels = remove_entry (is name) old.kernels }
-released old buffers programs kernels name b p k =
-    ap (λ (bs : Table (List ℕ)). record old { buffers = bs; programs = programs; kernels = kernels }) b
-    ∙ ap (λ (ps : Table Program). record old { buffers = remove_entry (is name) old.buffers; programs = ps; kernels = kernels }) p
-    ∙ ap (λ (ks : Table KernelState). record old { buffers = remove_entry (is name) old.buffers; programs = remove_entry (is name) old.programs; kernels = ks }) k
+pub released : (old : Machine) (buffers flags : Table (List ℕ)) (programs : Table Program) (kernels : Table KernelState) (name : List ℕ)
+    → buffers ≡ remove_entry (is name) old.buffers → flags ≡ remove_entry (is name) old.flags → programs ≡ remove_entry (is name) old.programs → kernels ≡ remove_entry (is name) old.kernels
+    → record old { buffers = buffers; flags = flags; programs = programs; kernels = kernels }
+    ≡ record old { buffers = remove_entry (is name) old.buffers; flags = remove_entry (is name) old.flags; programs = remove_entry (is name) old.programs; kernels = remove_entry (is name) old.kernels }
+released old buffers flags programs kernels name b f p k =
+    ap₂ (λ (bs : Table (List ℕ)) (fs : Table (List ℕ)). record old { buffers = bs; flags = fs; programs = programs; kernels = kernels }) b f
+    ∙ ap₂ (λ (ps : Table Program) (ks : Table KernelState). record old { buffers = remove_entry (is name) old.buffers; flags = remove_entry (is name) old.flags; programs = ps; kernels = ks }) p k

@@ -8,6 +8,7 @@ use Rattle.clmodel.specs.Law.{Determinacy, CleanIsComplete, ReportIsShown, Clean
 use Rattle.clmodel.specs.Outcome.{events_of}
 use Rattle.clmodel.specs.Setup.{Setup, item_count, group_items}
 use Rattle.clmodel.specs.declared.fault.Fault.{Fault}
+use Rattle.clmodel.specs.declared.outcome.Contents.{Contents}
 use Rattle.clmodel.specs.declared.schedule.EventRun.{EventRun}
 use Rattle.launches.specs.Groups.{HasGroups}
 use Rattle.limits.specs.declared.Configuration.{Configuration}
@@ -20,7 +21,7 @@ use Rattle.ordered_runs.specs.Ordered.{is_order}
 use Rattle.ordered_play.specs.Outcomes.{IsOrderedEnd}
 use Rattle.ordered_play.specs.declared.ordered.OrderedEnd.{OrderedEnd}
 use Rattle.ordered_play.specs.declared.ordered.OrderedEnd.TheVariants as again
-use Rattle.device.specs.Ends.{EndsBy, EndsInOrder, IsReportedBy}
+use Rattle.device.specs.Ends.{EndsBy, EndsInOrder, IsLeft, IsReportedBy}
 use Rattle.device.specs.declared.running.RunEnd.TheVariants.{Clean, Ordered, Faulted}
 
 -- a launch in whole groups, within the limits and the budget of a device
@@ -51,18 +52,18 @@ clean_with determined complete launch events end run =
 -- ---- by the canonical run
 
 -- a canonical run without a report is of a clean launch, with `orders` and without
-pub clean_end : Determinacy → CleanIsComplete → (launch : Launch) (orders : Bool) (end : LaunchEnd) (changes : Vec Changed Global) → EndsAs launch end → end ≡ canonical.Clean changes
-    → EndsBy orders launch (Clean changes)
-clean_end determined complete launch orders end changes h is =
-    let run : EndsAs launch (canonical.Clean changes) = subst (λ (e : LaunchEnd). EndsAs launch e) is h in
+pub clean_end : Determinacy → CleanIsComplete → (launch : Launch) (flags : List (List ℕ)) (orders : Bool) (end : LaunchEnd) (changes cleared : Vec Changed Global) → EndsAs launch flags end
+    → end ≡ canonical.Clean changes cleared → EndsBy orders launch flags (Clean changes cleared)
+clean_end determined complete launch flags orders end changes cleared h is =
+    let run : EndsAs launch flags (canonical.Clean changes cleared) = subst (λ (e : LaunchEnd). EndsAs launch flags e) is h in
     subst (λ (contents : List (List (Option ℕ))). CleanWith launch contents) run.3 (clean_with determined complete launch run.0 run.1 run.2)
 
 -- A canonical run with a report leads to a state that shows it. Without `orders`, or where the report is no conflict of
 -- kind order, the launch is answered by it.
-pub fault_end : ReportIsShown → OtherReportsStay → (launch : Launch) (orders : Bool) (end : LaunchEnd) (fault : Fault) (schedule : List EventRun) → EndsAs launch end → end ≡ canonical.Faulted fault schedule
-    → (orders && is_order fault) ≡ false → EndsBy orders launch (Faulted fault schedule)
-fault_end shown stays launch orders end fault schedule h is ends =
-    let run : EndsAs launch (canonical.Faulted fault schedule) = subst (λ (e : LaunchEnd). EndsAs launch e) is h in
+pub fault_end : ReportIsShown → OtherReportsStay → (launch : Launch) (flags : List (List ℕ)) (orders : Bool) (end : LaunchEnd) (fault : Fault) (schedule : List EventRun) → EndsAs launch flags end
+    → end ≡ canonical.Faulted fault schedule → (orders && is_order fault) ≡ false → EndsBy orders launch flags (Faulted fault schedule)
+fault_end shown stays launch flags orders end fault schedule h is ends =
+    let run : EndsAs launch flags (canonical.Faulted fault schedule) = subst (λ (e : LaunchEnd). EndsAs launch flags e) is h in
     let last = shown launch run.0 run.1 fault run.2 in (
       subst (λ (events : Events). Reaches launch events fault) run.3 (run.1, last.0, last.1),
       subst (λ (events : Events). IsReportedBy orders launch events fault) run.3 (by orders run.0 run.1 run.2 ends),
@@ -74,32 +75,37 @@ fault_end shown stays launch orders end fault schedule h is ends =
     by false events state run other = (state, run)
 
 -- a canonical run that ended by order, of a launch with `orders`
-pub in_order : (launch : Launch) (orders : Bool) (end : LaunchEnd) (fault : Fault) (schedule : List EventRun) → EndsAs launch end → end ≡ canonical.Faulted fault schedule
+pub in_order : (launch : Launch) (flags : List (List ℕ)) (orders : Bool) (end : LaunchEnd) (fault : Fault) (schedule : List EventRun) → EndsAs launch flags end → end ≡ canonical.Faulted fault schedule
     → (orders && is_order fault) ≡ true → EndsInOrder launch
-in_order launch orders end fault schedule h is both =
-    let run : EndsAs launch (canonical.Faulted fault schedule) = subst (λ (e : LaunchEnd). EndsAs launch e) is h in
+in_order launch flags orders end fault schedule h is both =
+    let run : EndsAs launch flags (canonical.Faulted fault schedule) = subst (λ (e : LaunchEnd). EndsAs launch flags e) is h in
     (run.0, run.1, fault, run.2, (and_parts orders (is_order fault) both).1)
 
 -- ---- by the ordered run
 
 -- behind a canonical run that ended by order, an ordered run without a report has accesses that met
-pub ordered_end : OrderIsMet → (launch : Launch) (end : OrderedEnd) (schedule : List EventRun) (spaces : Vec (List (Option ℕ)) Global) (contents : Vec (List ℕ) Global) → EndsInOrder launch
-    → IsOrderedEnd launch end → end ≡ again.Ended schedule spaces → map (λ bytes. map Some bytes) contents.items ≡ spaces.items → EndsBy true launch (Ordered contents)
-ordered_end met launch end schedule spaces contents order h is same =
+pub ordered_end : OrderIsMet → (launch : Launch) (flags : List (List ℕ)) (end : OrderedEnd) (schedule : List EventRun) (spaces : Vec (List (Option ℕ)) Global) (contents : Vec Contents Global) → EndsInOrder launch
+    → IsOrderedEnd launch end → end ≡ again.Ended schedule spaces → IsLeft spaces.items (map (λ c. c.bytes) contents.items) (map (λ c. c.flags) contents.items)
+    → EndsBy true launch flags (Ordered contents)
+ordered_end met launch flags end schedule spaces contents order h is same =
     let run : IsOrderedEnd launch (again.Ended schedule spaces) = subst (λ (e : OrderedEnd). IsOrderedEnd launch e) is h in (
       refl,
-      record {
-        events = events_of schedule;
-        last = run.0;
-        runs = run.1;
-        met = met launch order.0 (events_of schedule) order.1 run.0 order.2 order.3 order.4 run.1;
-        leaves = run.2 ∙ sym same;
-      },
+      (
+        spaces.items,
+        record {
+          events = events_of schedule;
+          last = run.0;
+          runs = run.1;
+          met = met launch order.0 (events_of schedule) order.1 run.0 order.2 order.3 order.4 run.1;
+          leaves = run.2;
+        },
+        same,
+      ),
     )
 
 -- an ordered run with a report
-pub ordered_fault : (launch : Launch) (end : OrderedEnd) (fault : Fault) (schedule : List EventRun) → IsOrderedEnd launch end → end ≡ again.Faulted fault schedule
-    → EndsBy true launch (Faulted fault schedule)
-ordered_fault launch end fault schedule h is =
+pub ordered_fault : (launch : Launch) (flags : List (List ℕ)) (end : OrderedEnd) (fault : Fault) (schedule : List EventRun) → IsOrderedEnd launch end → end ≡ again.Faulted fault schedule
+    → EndsBy true launch flags (Faulted fault schedule)
+ordered_fault launch flags end fault schedule h is =
     let run : IsOrderedEnd launch (again.Faulted fault schedule) = subst (λ (e : OrderedEnd). IsOrderedEnd launch e) is h in
     (run.1, run.0, run.3)

@@ -1,16 +1,20 @@
 -- Changes that are written into a launch's buffers, each of which has a name of its own.
-use Rattle.std.proofs.Common.{◌≡◌, ℕ, Bool, true, false, cond, ◌⊎◌, List, [], ◌∷◌, ◌++◌, Option, None, Some, map, refl, sym, ap, ap₂, ◌∙◌, inl, inr, ◌||◌}
+use Rattle.std.proofs.Common.{◌≡◌, ℕ, Bool, true, false, cond, ◌⊎◌, List, [], ◌∷◌, ◌++◌, Option, None, Some, map, refl, sym, ap, ap₂, ◌∙◌, inl, inr, ◌||◌, if◌then◌else◌}
 use Rattle.std.specs.List.{list_any}
-use Rattle.std.specs.Map.{set_value}
+use Rattle.std.specs.Map.{remove_entry, set_value}
 use Rattle.std.specs.Option.{unwrap_or}
 use Rattle.std.proofs.lemmas.Bool.{true≢false}
 use Rattle.std.proofs.lemmas.Slice.Eq.{bytes_eq-Decides}
+use Rattle.clmodel.specs.Cells.{held_cells}
 use Rattle.clmodel.specs.Setup.{Setup, buffer_names, names_among, same_text, with_name}
 use Rattle.clmodel.specs.declared.setup.Argument.{Argument}
 use Rattle.clmodel.specs.declared.setup.Argument.TheVariants.{Buffer, Value, Local}
-use Rattle.spaces.specs.Buffers.{bytes_in}
-use Rattle.spaces.specs.Changes.{Changed, with_changes, all_with_changes, table_with_changes}
+use Rattle.spaces.specs.Buffers.{row_in}
+use Rattle.group_join.specs.Ends.{all_cells}
+use Rattle.spaces.specs.Changes.{Changed, with_changes, all_with_changes}
+use Rattle.spaces.specs.FlagRows.{both_with_changes, bytes_beneath, flags_over, has_unset, tidied, with_all_flags}
 use Rattle.spaces.specs.Tables.{Table, is, find, with_values}
+use Rattle.device.specs.Machine.{Machine}
 
 -- ---- names that are there once each
 
@@ -86,22 +90,61 @@ found_other (e ∷ es) name other value h = go (is name e.0) refl (found_other e
         let apart : is other e.0 ≡ false = ap (is other) (sym same) ∙ turned name other h in
         ap (λ b. cond b (Some value) (find es other)) apart ∙ sym (ap (λ b. cond b (Some e.1) (find es other)) apart)
 
-others_stay : (table : Table (List ℕ)) (name value : List ℕ) (names : List (List ℕ)) → IsNew name names → map (bytes_in (set_value (is name) table value)) names ≡ map (bytes_in table) names
+others_stay : (table : Table (List ℕ)) (name value : List ℕ) (names : List (List ℕ)) → IsNew name names → map (row_in (set_value (is name) table value)) names ≡ map (row_in table) names
 others_stay table name value [] h = refl
 others_stay table name value (other ∷ names) h =
     let p = new_head name other names h in
     ap₂ (λ (x : List ℕ) xs. x ∷ xs) (ap (λ o. unwrap_or o []) (found_other table name other value p.0)) (others_stay table name value names p.1)
 
-values_set : (table : Table (List ℕ)) (names : List (List ℕ)) (changes : List Changed) → AreApart names
-    → table_with_changes table names changes ≡ with_values table names (all_with_changes (map (bytes_in table) names) changes)
-values_set table [] changes a = refl
-values_set table (name ∷ names) [] a = refl
-values_set table (name ∷ names) (one ∷ changes) a =
-    let value : List ℕ = with_changes (bytes_in table name) one in
-    values_set (set_value (is name) table value) names changes a.1
-    ∙ ap (λ (rows : List (List ℕ)). with_values (set_value (is name) table value) names (all_with_changes rows changes)) (others_stay table name value names a.0)
+-- nor does what has another name where a row goes
+found_without : (es : Table (List ℕ)) (name other : List ℕ) → same_text name other ≡ false → find (remove_entry (is name) es) other ≡ find es other
+found_without [] name other h = refl
+found_without (e ∷ es) name other h = go (is name e.0) refl (found_without es name other h)
+  where
+    go : (b : Bool) → is name e.0 ≡ b → find (remove_entry (is name) es) other ≡ find es other → find (cond b es (e ∷ remove_entry (is name) es)) other ≡ cond (is other e.0) (Some e.1) (find es other)
+    go false p rest = ap (cond (is other e.0) (Some e.1)) rest
+    go true p rest =
+        let same : name ≡ e.0 = (bytes_eq-Decides name e.0).0 p in
+        let apart : is other e.0 ≡ false = ap (is other) (sym same) ∙ turned name other h in
+        sym (ap (λ b. cond b (Some e.1) (find es other)) apart)
 
--- the changes of a launch's buffers, written into them, leave each as it is with its changes
-pub changes_written : (table : Table (List ℕ)) (setup : Setup) (changes : List Changed)
-    → table_with_changes table (buffer_names setup) changes ≡ with_values table (buffer_names setup) (all_with_changes (map (bytes_in table) (buffer_names setup)) changes)
-changes_written table setup changes = values_set table (buffer_names setup) changes (buffers_apart setup)
+others_left : (table : Table (List ℕ)) (name : List ℕ) (names : List (List ℕ)) → IsNew name names → map (row_in (remove_entry (is name) table)) names ≡ map (row_in table) names
+others_left table name [] h = refl
+others_left table name (other ∷ names) h =
+    let p = new_head name other names h in
+    ap₂ (λ (x : List ℕ) xs. x ∷ xs) (ap (λ o. unwrap_or o []) (found_without table name other p.0)) (others_left table name names p.1)
+
+others_tidied : (table : Table (List ℕ)) (name : List ℕ) (names : List (List ℕ)) → IsNew name names → map (row_in (tidied table name)) names ≡ map (row_in table) names
+others_tidied table name names h = go (has_unset (row_in table name))
+  where
+    go : (b : Bool) → map (row_in (if b then table else remove_entry (is name) table)) names ≡ map (row_in table) names
+    go true = refl
+    go false = others_left table name names h
+
+-- bytes and flags that a launch left
+abbrev put_both : Table (List ℕ) → Table (List ℕ) → List (List ℕ) → List (List (Option ℕ)) → Table (List ℕ) × Table (List ℕ)
+put_both bytes flags names contents = (with_values bytes names (map bytes_beneath contents), with_all_flags flags names (map flags_over contents))
+
+-- what is left in buffers of these bytes and flags with these changes
+abbrev left_in : List (List ℕ) → List (List ℕ) → List Changed → List Changed → List (List (Option ℕ))
+left_in rows flags changes cleared = all_cells (all_with_changes rows changes) (all_with_changes flags cleared)
+
+both_put : (bytes flags : Table (List ℕ)) (names : List (List ℕ)) (changes cleared : List Changed) → AreApart names
+    → both_with_changes bytes flags names changes cleared ≡ put_both bytes flags names (left_in (map (row_in bytes) names) (map (row_in flags) names) changes cleared)
+both_put bytes flags [] changes cleared a = refl
+both_put bytes flags (name ∷ names) [] cleared a = refl
+both_put bytes flags (name ∷ names) (one ∷ changes) [] a = refl
+both_put bytes flags (name ∷ names) (one ∷ changes) (other ∷ cleared) a =
+    let cells : List (Option ℕ) = held_cells (with_changes (row_in bytes name) one) (with_changes (row_in flags name) other) in
+    let held : Table (List ℕ) = set_value (is name) bytes (bytes_beneath cells) in
+    let marked : Table (List ℕ) = set_value (is name) flags (flags_over cells) in
+    both_put held (tidied marked name) names changes cleared a.1
+    ∙ ap₂ (λ (rows : List (List ℕ)) (others : List (List ℕ)). put_both held (tidied marked name) names (left_in rows others changes cleared))
+    (others_stay bytes name (bytes_beneath cells) names a.0)
+    (others_tidied marked name names a.0 ∙ others_stay flags name (flags_over cells) names a.0)
+
+-- the changes of a launch's buffers, made in them, leave each as it is with its changes
+pub changes_written : (m : Machine) (setup : Setup) (changes cleared : List Changed)
+    → both_with_changes m.buffers m.flags (buffer_names setup) changes cleared
+    ≡ put_both m.buffers m.flags (buffer_names setup) (left_in (map (row_in m.buffers) (buffer_names setup)) (map (row_in m.flags) (buffer_names setup)) changes cleared)
+changes_written m setup changes cleared = both_put m.buffers m.flags (buffer_names setup) changes cleared (buffers_apart setup)

@@ -1,5 +1,5 @@
 -- The machine: what each command answers and leaves.
-use Rattle.std.specs.Prelude.{◌≡◌, ℕ, ◌+◌, ◌==◌, ◌⊎◌, Bool, true, false, not, ◌&&◌, ◌||◌, nat_le, nat_lt, if◌then◌else◌, IsTrue, List, [], ◌∷◌, ◌++◌, length, map, take, drop, replicate, slice_get, Option, None, Some, is_some, Result, Ok, Err}
+use Rattle.std.specs.Prelude.{◌≡◌, ℕ, ◌+◌, ◌-◌, ◌==◌, ◌⊎◌, Bool, true, false, not, ◌&&◌, ◌||◌, nat_le, nat_lt, if◌then◌else◌, IsTrue, List, [], ◌∷◌, ◌++◌, length, map, take, drop, replicate, slice_get, Option, None, Some, is_some, Result, Ok, Err}
 use Rattle.std.specs.List.{list_any, sum_by}
 use Rattle.std.specs.Map.{remove_entry, set_value, values_of}
 use Rattle.std.specs.Option.{option_map_or, unwrap_or, MatchOption}
@@ -7,14 +7,17 @@ use Rattle.clmodel.specs.Law.{CleanWith, Reaches, RunsIntoFault}
 use Rattle.clmodel.specs.Launch.{Launch}
 use Rattle.clmodel.specs.Run.{Events, State, left}
 use Rattle.clmodel.specs.declared.fault.Fault.{Fault}
-use Rattle.clmodel.specs.Next.{launch_of}
+use Rattle.clmodel.specs.Cells.{is_flagged}
+use Rattle.clmodel.specs.Next.{launch_on}
 use Rattle.clmodel.specs.Outcome.{events_of, IsMerged}
 use Rattle.clmodel.specs.Setup.{Setup, buffer_names, kernel_number, local_objects}
 use Rattle.clmodel.specs.Tree.{Program, NoFunc, program}
 use Rattle.clmodel.specs.declared.setup.Argument.{Argument}
 use Rattle.clmodel.specs.declared.setup.Argument.TheVariants as argument
 use Rattle.clmodel.specs.declared.setup.Range.{Range}
-use Rattle.spaces.specs.Buffers.{bytes_in, with_bytes, repeated}
+use Rattle.spaces.specs.Buffers.{row_in, with_bytes, repeated}
+use Rattle.spaces.specs.FlagRows.{bytes_beneath, flags_over, with_all_flags, with_copied, with_set, with_unset}
+use Rattle.spaces.specs.Parts.{lowest_marked, marked_run}
 use Rattle.host_commands.specs.Builds.{Builds}
 use Rattle.host_commands.specs.Fills.{is_bad_fill}
 use Rattle.host_commands.specs.Kernels.{KernelState, names_buffer, parameters_of, with_argument, new_kernel, no_kernel, suits}
@@ -24,7 +27,7 @@ use Rattle.host_commands.specs.declared.command.BuildFault.{BuildFault}
 use Rattle.host_commands.specs.declared.command.Command.{Command}
 use Rattle.host_commands.specs.declared.command.Command.TheVariants as command
 use Rattle.host_commands.specs.declared.command.Refusal.{Refusal}
-use Rattle.host_commands.specs.declared.command.Refusal.TheVariants.{NameInUse, NoSuchName, BadSize, OutOfRange, TooManyBuffers, BadDimension, BadGroupSize, TooManyItems, Overlap, BuildFailed, NoSuchKernel, BadArgument, ArgumentsMissing, LocalTooLarge, InUse, OutOfMemory}
+use Rattle.host_commands.specs.declared.command.Refusal.TheVariants.{NameInUse, NoSuchName, BadSize, OutOfRange, TooManyBuffers, BadDimension, BadGroupSize, TooManyItems, Overlap, BuildFailed, NoSuchKernel, BadArgument, ArgumentsMissing, LocalTooLarge, InUse, OutOfMemory, UnsetBytes}
 use Rattle.host_commands.specs.declared.command.Reply.{Reply}
 use Rattle.host_commands.specs.declared.command.Reply.TheVariants as reply
 use Rattle.limits.specs.declared.Configuration.{Configuration}
@@ -32,10 +35,12 @@ use Rattle.ordered_runs.specs.Ordered.{HaveMet, OrderedIntoFault, RunsOrdered}
 use Rattle.device.specs.declared.Device.{Device}
 
 -- what is known between two commands: what the device was made with, its limits (table 4.3) and the ticks that an item
--- of a launch may make, and the buffers with their bytes, the programs and the kernels by their names
+-- of a launch may make, and the buffers with their bytes, the programs and the kernels by their names. Of those buffers
+-- that have unset bytes (C99 6.7.8) there is a flag for each byte: 1 where it is unset, and 0 where it is set (own).
 pub record Machine : Type 0 where
   pub configuration : Configuration
   pub buffers : Table (List ℕ)
+  pub flags : Table (List ℕ)
   pub programs : Table Program
   pub kernels : Table KernelState
 
@@ -43,13 +48,14 @@ abbrev pub machine_of : Device → Machine
 machine_of device =
     record {
       configuration = device.configuration;
-      buffers = device.buffers;
+      buffers = device.buffers.bytes;
+      flags = device.buffers.flags;
       programs = map (λ e. (e.0, program e.1.tree)) device.programs;
       kernels = map (λ e. (e.0, e.1.kernel)) device.kernels;
     }
 
 abbrev pub opening : Configuration → Machine
-opening configuration = record { configuration = configuration; buffers = []; programs = []; kernels = [] }
+opening configuration = record { configuration = configuration; buffers = []; flags = []; programs = []; kernels = [] }
 
 -- something has the name
 abbrev pub is_used : Machine → List ℕ → Bool
@@ -57,7 +63,19 @@ is_used m name = is_some (find m.buffers name) || is_some (find m.programs name)
 
 -- the bytes of a buffer, none where there is no such buffer
 abbrev pub bytes_of : Machine → List ℕ → List ℕ
-bytes_of m = bytes_in m.buffers
+bytes_of m = row_in m.buffers
+
+-- a byte of a buffer is unset (C99 6.7.8)
+abbrev pub is_unset : Machine → List ℕ → ℕ → Bool
+is_unset m name = is_flagged (row_in m.flags name)
+
+-- the lowest of n bytes of a buffer from an offset on that is unset
+abbrev pub lowest_unset : Machine → List ℕ → ℕ → ℕ → Option ℕ
+lowest_unset m name at count = lowest_marked (is_unset m name) at count
+
+-- how many of these bytes are unset from the lowest on that is, one behind another
+abbrev pub unset_run : Machine → List ℕ → ℕ → ℕ → ℕ
+unset_run m name at count = let first = unwrap_or (lowest_unset m name at count) 0 in marked_run (is_unset m name) first (at + count - first)
 
 abbrev pub no_program : Program
 no_program = record { functions = NoFunc; names = [] }
@@ -127,7 +145,7 @@ launch_row m kernel range =
 
 -- the row of a command
 abbrev pub row : Machine → Command → Row
-row m (command.Buffer name size) =
+row m (command.Buffer name size unset) =
     (is_used m name, NameInUse)
     ∷ ((size == 0) || nat_lt m.configuration.limits.buffer_bytes size, BadSize)
     ∷ (nat_le m.configuration.limits.buffers (length m.buffers), TooManyBuffers)
@@ -152,6 +170,7 @@ row m (command.Read name at count) =
     (not (is_some (find m.buffers name)), NoSuchName)
     ∷ (count == 0, BadSize)
     ∷ (nat_lt (length (bytes_of m name)) (at + count), OutOfRange)
+    ∷ (is_some (lowest_unset m name at count), UnsetBytes (unwrap_or (lowest_unset m name at count) 0) (unset_run m name at count))
     ∷ []
 row m (command.Release name) = (not (is_used m name), NoSuchName) ∷ (is_in_use m name, InUse) ∷ []
 row m (command.Program name source) = (is_used m name, NameInUse) ∷ []
@@ -176,16 +195,23 @@ Built old name (Err f) r new = (r ≡ reply.Refused (BuildFailed f)) × (new ≡
 abbrev pub IsReported : Launch → Events → Fault → Type 0
 IsReported launch events fault = (end : State) × RunsIntoFault launch events end fault
 
+-- a launch on what a machine's buffers hold, some bytes of which may be unset (5.8; C99 6.7.8)
+abbrev pub launch_at : Machine → Setup → Launch
+launch_at m setup = launch_on setup (bytes_of m) (is_unset m)
+
+-- a machine whose buffers with these names hold this, the first the first, where nothing is an unset byte
+abbrev pub holding : Machine → List (List ℕ) → List (List (Option ℕ)) → Machine
+holding m names contents =
+    record m { buffers = with_values m.buffers names (map bytes_beneath contents); flags = with_all_flags m.flags names (map flags_over contents) }
+
 -- A launch without `orders` that isn't refused: it is clean, whatever the order in which its items go on, and its
 -- buffers hold from then on what every order leaves in them; or the schedule leads to a state that shows the fault,
 -- which is the canonical run's report, and no buffer changes.
 abbrev pub Launches : Machine → Setup → Reply → Machine → Type 0
 Launches old setup reply.Clean new =
-    (contents : List (List ℕ)) × CleanWith (launch_of setup (bytes_of old)) (map (λ bytes. map Some bytes) contents)
-    × (new ≡ record old { buffers = with_values old.buffers (buffer_names setup) contents })
+    (contents : List (List (Option ℕ))) × CleanWith (launch_at old setup) contents × (new ≡ holding old (buffer_names setup) contents)
 Launches old setup (reply.Fault fault schedule) new =
-    Reaches (launch_of setup (bytes_of old)) (events_of schedule) fault × IsReported (launch_of setup (bytes_of old)) (events_of schedule) fault
-    × IsMerged schedule × (new ≡ old)
+    Reaches (launch_at old setup) (events_of schedule) fault × IsReported (launch_at old setup) (events_of schedule) fault × IsMerged schedule × (new ≡ old)
 Launches old setup reply.Done new = ⊥
 Launches old setup (reply.Data bytes) new = ⊥
 Launches old setup reply.Ordered new = ⊥
@@ -210,11 +236,9 @@ pub record OrderedWith (launch : Launch) (contents : List (List (Option ℕ))) :
 abbrev pub LaunchesOrdered : Machine → Setup → Reply → Machine → Type 0
 LaunchesOrdered old setup reply.Clean new = Launches old setup reply.Clean new
 LaunchesOrdered old setup reply.Ordered new =
-    (contents : List (List ℕ)) × OrderedWith (launch_of setup (bytes_of old)) (map (λ bytes. map Some bytes) contents)
-    × (new ≡ record old { buffers = with_values old.buffers (buffer_names setup) contents })
+    (contents : List (List (Option ℕ))) × OrderedWith (launch_at old setup) contents × (new ≡ holding old (buffer_names setup) contents)
 LaunchesOrdered old setup (reply.Fault fault schedule) new =
-    Reaches (launch_of setup (bytes_of old)) (events_of schedule) fault × IsOrderedReport (launch_of setup (bytes_of old)) (events_of schedule) fault
-    × IsMerged schedule × (new ≡ old)
+    Reaches (launch_at old setup) (events_of schedule) fault × IsOrderedReport (launch_at old setup) (events_of schedule) fault × IsMerged schedule × (new ≡ old)
 LaunchesOrdered old setup reply.Done new = ⊥
 LaunchesOrdered old setup (reply.Data bytes) new = ⊥
 LaunchesOrdered old setup (reply.Refused refusal) new = ⊥
@@ -231,18 +255,29 @@ named_kernel p program function =
 
 -- what a command that its row doesn't refuse answers and leaves
 abbrev pub Does : Machine → Command → Reply → Machine → Type 0
-Does old (command.Buffer name size) r new = (r ≡ reply.Done) × (new ≡ record old { buffers = old.buffers ++ (name, replicate size 0) ∷ [] })
+Does old (command.Buffer name size unset) r new =
+    (r ≡ reply.Done) × (new ≡ record old { buffers = old.buffers ++ (name, replicate size 0) ∷ []; flags = with_unset old.flags name size unset })
 Does old (command.Write name at bytes) r new =
-    (r ≡ reply.Done) × (new ≡ record old { buffers = set_value (is name) old.buffers (with_bytes (bytes_of old name) at bytes) })
+    (r ≡ reply.Done)
+    × (new ≡ record old { buffers = set_value (is name) old.buffers (with_bytes (bytes_of old name) at bytes); flags = with_set old.flags name at (length bytes) })
 Does old (command.Fill name at count pattern) r new =
-    (r ≡ reply.Done) × (new ≡ record old { buffers = set_value (is name) old.buffers (with_bytes (bytes_of old name) at (repeated pattern count)) })
+    (r ≡ reply.Done)
+    × (new ≡ record old { buffers = set_value (is name) old.buffers (with_bytes (bytes_of old name) at (repeated pattern count)); flags = with_set old.flags name at count })
 Does old (command.Copy source at target to count) r new =
     (r ≡ reply.Done)
-    × (new ≡ record old { buffers = set_value (is target) old.buffers (with_bytes (bytes_of old target) to (take count (drop at (bytes_of old source)))) })
+    × (new ≡ record old {
+      buffers = set_value (is target) old.buffers (with_bytes (bytes_of old target) to (take count (drop at (bytes_of old source))));
+      flags = with_copied old.flags source at target to count (length (bytes_of old target));
+    })
 Does old (command.Read name at count) r new = (r ≡ reply.Data (take count (drop at (bytes_of old name)))) × (new ≡ old)
 Does old (command.Release name) r new =
     (r ≡ reply.Done)
-    × (new ≡ record old { buffers = remove_entry (is name) old.buffers; programs = remove_entry (is name) old.programs; kernels = remove_entry (is name) old.kernels })
+    × (new ≡ record old {
+      buffers = remove_entry (is name) old.buffers;
+      flags = remove_entry (is name) old.flags;
+      programs = remove_entry (is name) old.programs;
+      kernels = remove_entry (is name) old.kernels;
+    })
 Does old (command.Program name source) r new = (built : Result Program BuildFault) × Builds old.configuration.limits source built × Built old name built r new
 Does old (command.Kernel name program function) r new =
     (r ≡ reply.Done) × (new ≡ record old { kernels = old.kernels ++ (name, named_kernel (program_of old program) program function) ∷ [] })
@@ -256,7 +291,7 @@ Answers old c r new = MatchOption (first (row old c)) (Does old c r new) (λ ref
 
 -- the commands whose rows end with refusal 16: all but a write, a fill and a release
 abbrev pub takes_memory : Command → Bool
-takes_memory (command.Buffer name size) = true
+takes_memory (command.Buffer name size unset) = true
 takes_memory (command.Write name at bytes) = false
 takes_memory (command.Fill name at count pattern) = false
 takes_memory (command.Copy source at target to count) = true

@@ -1,7 +1,6 @@
 -- A launch that wasn't refused, and what it came to.
-use Rattle.std.specs.Prelude.{◌≡◌, ℕ, Bool, List, None}
+use Rattle.std.specs.Prelude.{◌≡◌, Bool, None, map}
 use Rattle.clmodel.specs.Setup.{Setup, buffer_names}
-use Rattle.clmodel.specs.Next.{launch_of}
 use Rattle.clmodel.specs.Tree.{program}
 use Rattle.clmodel.specs.declared.setup.Range.{Range}
 use Rattle.item_step.specs.Launches as launches
@@ -9,7 +8,8 @@ use Rattle.item_step.specs.declared.launch.Launch.{Launch}
 use Rattle.launches.specs.Groups.{HasGroups}
 use Rattle.device.specs.Ends.{EndsBy}
 use Rattle.device.specs.Kept.{IsCodeOf}
-use Rattle.device.specs.Machine.{Machine, first, launch_row, kernel_of, setup_of, bytes_of}
+use Rattle.spaces.specs.Buffers.{row_in}
+use Rattle.device.specs.Machine.{Machine, first, launch_at, launch_row, kernel_of, setup_of}
 use Rattle.device.specs.declared.prepared.Prepared.{Prepared}
 use Rattle.device.specs.declared.prepared.Launched.{Launched}
 use Rattle.device.specs.declared.prepared.Started.{Started}
@@ -19,10 +19,10 @@ abbrev pub prepared_setup : Prepared → Range → Setup
 prepared_setup p range =
     record { program = program p.checked.now.tree; kernel = p.kernel.now.function; range = range; arguments = p.kernel.now.arguments; budget = p.configuration.budget }
 
--- the names of its buffers, and how it ends on these bytes, with `orders` or without
-pub record Came (setup : Setup) (bytes : List ℕ → List ℕ) (orders : Bool) (launched : Launched) : Type 0 where
+-- the names of its buffers, and how it ends on what these hold, with `orders` or without
+pub record Came (m : Machine) (setup : Setup) (orders : Bool) (launched : Launched) : Type 0 where
   pub names : launched.names.items ≡ buffer_names setup
-  pub ends : EndsBy orders (launch_of setup bytes) launched.end
+  pub ends : EndsBy orders (launch_at m setup) (map (row_in m.flags) (buffer_names setup)) launched.end
 
 -- a launch that its row doesn't refuse: it runs the kernel of this name over this range, in whole groups, and by this
 -- kernel's code
@@ -40,4 +40,4 @@ pub record IsStarted (m : Machine) (kernel : List ℕ) (range : Range) (started 
 -- what a launch comes to that its row doesn't refuse, with `orders` or without
 pub record Comes (m : Machine) (kernel : List ℕ) (range : Range) (orders : Bool) (launched : Launched) : Type 0 where
   pub admitted : first (launch_row m kernel range) ≡ None
-  pub came : Came (setup_of m (kernel_of m kernel) range) (bytes_of m) orders launched
+  pub came : Came m (setup_of m (kernel_of m kernel) range) orders launched

@@ -2,20 +2,17 @@
 #![tactic(auto)]
 
 ghost use Rattle.std.specs.Prelude.{◌≡◌, ℕ, Bool, List, IfOk, IfErr, None, Some};
-ghost use Rattle.clmodel.specs.Next.{launch_of};
 ghost use Rattle.clmodel.specs.declared.setup.Range.{Range as RangeOf};
 ghost use Rattle.host_commands.specs.Ranges.{IsLaunchable};
-ghost use Rattle.group_join.specs.Ends.{EndsAs};
+ghost use Rattle.group_join.specs.Ends.{EndsIn};
 ghost use Rattle.item_step.specs.Launches as launches;
 ghost use Rattle.launches.specs.Groups.{HasGroups};
-ghost use Rattle.spaces.specs.Buffers.{bytes_in};
-ghost use Rattle.spaces.specs.Tables.{with_values};
 
 use crate::Device;
 use crate::prepared::{Launched, Prepared, Started};
 use crate::running::{RunEnd, run_to_end};
 use clmodel::setup::Range;
-use clmodel::text::{Bytes, Name};
+use clmodel::text::Name;
 use group_join::LaunchEnd;
 use host_commands::command::{Command, Refusal, Reply};
 use host_commands::ranges::{is_bad_dimension, is_bad_group, is_too_many};
@@ -23,22 +20,9 @@ use item_step::{Launch, is_local_too_large};
 use spaces::Buffers;
 use std::alloc::{AllocError, Global};
 
-/// Puts these bytes in place of those of the buffers with these names, one after another, as far as there are both. It
-/// takes no memory.
-fn put_all(buffers: &mut Buffers, names: &[Name], contents: Vec<Bytes>)
-    ensures { buffers.new ≡ with_values buffers.old names.now contents.items }
-{
-    let mut contents = contents.into_iter();
-    for name in names {
-        let Some(bytes) = contents.next() else {
-            return;
-        };
-        buffers.replace(name, bytes);
-    }
-}
-
 impl Device {
     ghost use Rattle.device.specs.Machine.{Step, Answers, IsLaunchRefusal, machine_of, kernel_of, setup_of, first, launch_row};
+    ghost use Rattle.device.specs.Ends.{HasFlags};
     ghost use Rattle.device.specs.Prepared.{prepared_setup, IsPrepared, IsStarted, Comes};
 
     /// A kernel that may be launched over a range, or the launch's refusal.
@@ -107,17 +91,18 @@ impl Device {
     /// What is said of a launch that ended so. Where it ended clean or ordered, the buffers get what it left, which
     /// takes no memory: nothing can be refused once the first byte is written.
     fn conclude(&mut self, launched: Launched) -> Reply
+        requires { HasFlags launched.end }
         ensures { (name : List ℕ) (range : RangeOf) (orders : Bool) → Comes (machine_of self.old) name range orders launched → Answers (machine_of self.old) (Command.Launch name range orders) result (machine_of self.new) }
     {
         let Launched { names, end } = launched;
         match end {
-            RunEnd::Clean(changes) => {
+            RunEnd::Clean(changes, cleared) => {
                 self.buffers
-                    .write_all_changes(names.as_slice(), changes.as_slice());
+                    .put_all_changes(names.as_slice(), changes.as_slice(), cleared.as_slice());
                 Reply::Clean
             }
             RunEnd::Ordered(contents) => {
-                put_all(&mut self.buffers, names.as_slice(), contents);
+                self.buffers.put_all_contents(names.as_slice(), contents);
                 Reply::Ordered
             }
             RunEnd::Faulted(fault, schedule) => Reply::Fault { fault, schedule },
@@ -134,7 +119,7 @@ impl Device {
         run: R,
     ) -> Result<Reply, Refusal>
         requires runs { (alloc : _) (launch : _) (buffers : _) → HasGroups (launches.setup_of launch.now) → R.pre run alloc launch buffers }
-        requires concludes { (alloc : _) (launch : _) (buffers : _) (end : _) → R.post run alloc launch buffers end → IfOk end (EndsAs (launch_of (launches.setup_of launch.now) (bytes_in buffers.now))) }
+        requires concludes { (alloc : _) (launch : _) (buffers : _) (end : _) → R.post run alloc launch buffers end → IfOk end (EndsIn (launches.setup_of launch.now) buffers.now) }
         ensures ok { IfOk result (λ reply. Answers (machine_of self.old) (Command.Launch name.now range.now orders) reply (machine_of self.new)) }
         ensures err { IfErr result (λ refusal. Step (machine_of self.old) (Command.Launch name.now range.now orders) (Reply.Refused refusal) (machine_of self.new)) }
     {

@@ -13,12 +13,11 @@ ghost use Rattle.std.specs.Prelude.{◌≡◌, IfOk, IfErr, IfSome, Some, is_som
 ghost use Rattle.std.specs.Option.{option_map};
 ghost use Rattle.clmodel.specs.Tree.{program};
 ghost use Rattle.clmodel.specs.Typing.Sizes.{parameter_limit};
-ghost use Rattle.group_join.specs.Ends.{EndsAs};
+ghost use Rattle.group_join.specs.Ends.{EndsIn};
 ghost use Rattle.item_step.specs.Launches.{setup_of};
 ghost use Rattle.launches.specs.Groups.{HasGroups};
+ghost use Rattle.spaces.specs.FlagRows.{AreFit};
 ghost use Rattle.spaces.specs.Tables.{find};
-ghost use Rattle.clmodel.specs.Next.{launch_of};
-ghost use Rattle.spaces.specs.Buffers.{bytes_in};
 ghost use Rattle.device.specs.Kept.{ActsAs, AllCompiled, IsCodeOf};
 
 mod compiled;
@@ -67,6 +66,7 @@ pub struct Device {
     programs: Table<Checked>,
     kernels: Table<CompiledKernel>,
     ghost kept: { AllCompiled programs kernels },
+    ghost fit: { AreFit buffers.bytes buffers.flags },
 }
 
 impl Device {
@@ -85,9 +85,10 @@ impl Device {
         }
     }
 
-    /// The buffers with their bytes.
+    /// The buffers with their bytes and their flags.
     pub fn buffers(&self) -> &Buffers
-        ensures { result.now ≡ (machine_of self.now).buffers }
+        ensures bytes { result.now.bytes ≡ (machine_of self.now).buffers }
+        ensures flags { result.now.flags ≡ (machine_of self.now).flags }
     {
         &self.buffers
     }
@@ -114,7 +115,7 @@ impl Device {
     fn is_used(&self, name: &Name) -> bool
         ensures { result ≡ is_used (machine_of self.now) name.now }
     {
-        self.buffers.get(name).is_some()
+        self.buffers.bytes.get(name).is_some()
             || self.program(name).is_some()
             || self.compiled(name).is_some()
     }
@@ -138,11 +139,12 @@ impl Device {
         }
     }
 
-    /// Makes a buffer of zero bytes, at least one. It is refused where something has the name, with a size that the
-    /// limits don't allow, where as many buffers are there as they allow, and where memory runs out.
-    fn make_buffer(&mut self, name: Name, size: u64) -> Result<Reply, Refusal>
-        ensures ok { IfOk result (λ reply. Answers (machine_of self.old) (Command.Buffer name size) reply (machine_of self.new)) }
-        ensures err { IfErr result (λ refusal. Step (machine_of self.old) (Command.Buffer name size) (Reply.Refused refusal) (machine_of self.new)) }
+    /// Makes a buffer of zero bytes, at least one; with `unset` all of them are unset. It is refused where something
+    /// has the name, with a size that the limits don't allow, where as many buffers are there as they allow, and where
+    /// memory runs out.
+    fn make_buffer(&mut self, name: Name, size: u64, unset: bool) -> Result<Reply, Refusal>
+        ensures ok { IfOk result (λ reply. Answers (machine_of self.old) (Command.Buffer name size unset) reply (machine_of self.new)) }
+        ensures err { IfErr result (λ refusal. Step (machine_of self.old) (Command.Buffer name size unset) (Reply.Refused refusal) (machine_of self.new)) }
     {
         if self.is_used(&name) {
             return Err(Refusal::NameInUse);
@@ -150,21 +152,20 @@ impl Device {
         if size == 0 || size > self.configuration.limits.buffer_bytes {
             return Err(Refusal::BadSize);
         }
-        if self.buffers.len() >= self.configuration.limits.buffers {
+        if self.buffers.bytes.len() >= self.configuration.limits.buffers {
             return Err(Refusal::TooManyBuffers);
         }
-        let bytes = Bytes::zeros(self.alloc, size as usize)?;
-        self.buffers.insert(name, bytes)?;
+        self.buffers.make(self.alloc, name, size as usize, unset)?;
         Ok(Reply::Done)
     }
 
-    /// Writes bytes into a buffer from an offset on. It is refused where there is no such buffer, without bytes, and
-    /// where they pass the buffer's end.
+    /// Writes bytes into a buffer from an offset on; they are set then. It is refused where there is no such buffer,
+    /// without bytes, and where they pass the buffer's end.
     fn write(&mut self, name: &Name, offset: u64, bytes: &Bytes) -> Result<Reply, Refusal>
         ensures ok { IfOk result (λ reply. Answers (machine_of self.old) (Command.Write name.now offset bytes.now) reply (machine_of self.new)) }
         ensures err { IfErr result (λ refusal. Step (machine_of self.old) (Command.Write name.now offset bytes.now) (Reply.Refused refusal) (machine_of self.new)) }
     {
-        let Some(buffer) = self.buffers.get(name) else {
+        let Some(buffer) = self.buffers.bytes.get(name) else {
             return Err(Refusal::NoSuchName);
         };
         if bytes.is_empty() {
@@ -177,8 +178,9 @@ impl Device {
         Ok(Reply::Done)
     }
 
-    /// Fills `count` bytes of a buffer from an offset on with copies of a pattern. It is refused where there is no such
-    /// buffer, where the pattern's length, the offset or the count is bad, and where they pass the buffer's end.
+    /// Fills `count` bytes of a buffer from an offset on with copies of a pattern; they are set then. It is refused
+    /// where there is no such buffer, where the pattern's length, the offset or the count is bad, and where they pass
+    /// the buffer's end.
     fn fill(
         &mut self,
         name: &Name,
@@ -189,7 +191,7 @@ impl Device {
         ensures ok { IfOk result (λ reply. Answers (machine_of self.old) (Command.Fill name.now offset count pattern.now) reply (machine_of self.new)) }
         ensures err { IfErr result (λ refusal. Step (machine_of self.old) (Command.Fill name.now offset count pattern.now) (Reply.Refused refusal) (machine_of self.new)) }
     {
-        let Some(buffer) = self.buffers.get(name) else {
+        let Some(buffer) = self.buffers.bytes.get(name) else {
             return Err(Refusal::NoSuchName);
         };
         if is_bad_fill(offset, count, pattern.as_slice()) {
@@ -204,8 +206,9 @@ impl Device {
         Ok(Reply::Done)
     }
 
-    /// Copies `count` bytes from one buffer to another, or within one where the parts don't overlap. It is refused
-    /// where there is no such buffer, with no bytes, past an end, with an overlap, and where memory runs out.
+    /// Copies `count` bytes from one buffer to another, or within one where the parts don't overlap; those that are
+    /// unset are unset there too. It is refused where there is no such buffer, with no bytes, past an end, with an
+    /// overlap, and where memory runs out.
     fn copy(
         &mut self,
         source: &Name,
@@ -217,10 +220,10 @@ impl Device {
         ensures ok { IfOk result (λ reply. Answers (machine_of self.old) (Command.Copy source.now offset target.now target_offset count) reply (machine_of self.new)) }
         ensures err { IfErr result (λ refusal. Step (machine_of self.old) (Command.Copy source.now offset target.now target_offset count) (Reply.Refused refusal) (machine_of self.new)) }
     {
-        let Some(from) = self.buffers.get(source) else {
+        let Some(from) = self.buffers.bytes.get(source) else {
             return Err(Refusal::NoSuchName);
         };
-        let Some(to) = self.buffers.get(target) else {
+        let Some(to) = self.buffers.bytes.get(target) else {
             return Err(Refusal::NoSuchName);
         };
         if count == 0 {
@@ -239,12 +242,12 @@ impl Device {
     }
 
     /// Reads `count` bytes of a buffer from an offset on. It is refused where there is no such buffer, with no bytes,
-    /// where they pass the buffer's end, and where memory runs out.
+    /// where they pass the buffer's end, where one of them is unset, and where memory runs out.
     fn read(&self, name: &Name, offset: u64, count: u64) -> Result<Reply, Refusal>
         ensures ok { IfOk result (λ reply. Answers (machine_of self.now) (Command.Read name.now offset count) reply (machine_of self.now)) }
         ensures err { IfErr result (λ refusal. Step (machine_of self.now) (Command.Read name.now offset count) (Reply.Refused refusal) (machine_of self.now)) }
     {
-        let Some(buffer) = self.buffers.get(name) else {
+        let Some(buffer) = self.buffers.bytes.get(name) else {
             return Err(Refusal::NoSuchName);
         };
         if count == 0 {
@@ -252,6 +255,10 @@ impl Device {
         }
         if is_outside(buffer, offset, count) {
             return Err(Refusal::OutOfRange);
+        }
+        if let Some(byte) = self.buffers.lowest_unset(name, offset, count) {
+            let count = self.buffers.unset_run(name, byte, offset + count - byte);
+            return Err(Refusal::UnsetBytes { byte, count });
         }
         let found = &buffer.as_slice()[offset as usize..(offset + count) as usize];
         Ok(Reply::Data(Bytes::copy_of(self.alloc, found)?))
@@ -277,7 +284,7 @@ impl Device {
     fn is_in_use(&self, name: &Name) -> bool
         ensures { result ≡ is_in_use (machine_of self.now) name.now }
     {
-        (self.buffers.get(name).is_some() && self.is_argument(name))
+        (self.buffers.bytes.get(name).is_some() && self.is_argument(name))
             || (self.program(name).is_some() && self.has_kernels(name))
     }
 
@@ -371,7 +378,7 @@ impl Device {
         ensures { result ≡ is_there (machine_of self.now) argument.now }
     {
         match argument {
-            Argument::Buffer(name) => self.buffers.get(name).is_some(),
+            Argument::Buffer(name) => self.buffers.bytes.get(name).is_some(),
             Argument::Value(_) | Argument::Local(_) => true,
         }
     }
@@ -383,12 +390,12 @@ impl Device {
         run: R,
     ) -> Result<Reply, Refusal>
         requires runs { (alloc : _) (launch : _) (buffers : _) → HasGroups (setup_of launch.now) → R.pre run alloc launch buffers }
-        requires concludes { (alloc : _) (launch : _) (buffers : _) (end : _) → R.post run alloc launch buffers end → IfOk end (EndsAs (launch_of (setup_of launch.now) (bytes_in buffers.now))) }
+        requires concludes { (alloc : _) (launch : _) (buffers : _) (end : _) → R.post run alloc launch buffers end → IfOk end (EndsIn (setup_of launch.now) buffers.now) }
         ensures ok { IfOk result (λ reply. Answers (machine_of self.old) command reply (machine_of self.new)) }
         ensures err { IfErr result (λ refusal. Step (machine_of self.old) command (Reply.Refused refusal) (machine_of self.new)) }
     {
         match command {
-            Command::Buffer { name, size } => self.make_buffer(name, size),
+            Command::Buffer { name, size, unset } => self.make_buffer(name, size, unset),
             Command::Write {
                 buffer,
                 offset,
@@ -439,7 +446,7 @@ impl Device {
         run: R,
     ) -> Reply
         requires runs { (alloc : _) (launch : _) (buffers : _) → HasGroups (setup_of launch.now) → R.pre run alloc launch buffers }
-        requires concludes { (alloc : _) (launch : _) (buffers : _) (end : _) → R.post run alloc launch buffers end → IfOk end (EndsAs (launch_of (setup_of launch.now) (bytes_in buffers.now))) }
+        requires concludes { (alloc : _) (launch : _) (buffers : _) (end : _) → R.post run alloc launch buffers end → IfOk end (EndsIn (setup_of launch.now) buffers.now) }
         ensures { Step (machine_of self.old) command result (machine_of self.new) }
     {
         match self.perform(command, run) {

@@ -2,36 +2,34 @@
 //! 3.3.1 and 6.12.11).
 #![tactic(auto)]
 
-ghost use Rattle.std.specs.Prelude.{◌≡◌, ◌&&◌, true, IfOk, Some, map};
-ghost use Rattle.clmodel.specs.Next.{launch_of};
+ghost use Rattle.std.specs.Prelude.{◌≡◌, ◌&&◌, true, IfOk, length, map};
+ghost use Rattle.std.specs.List.{All};
 ghost use Rattle.item_step.specs.Launches.{setup_of};
-ghost use Rattle.launches.specs.Groups.{HasGroups};
-ghost use Rattle.group_join.specs.Ends.{EndsAs};
+ghost use Rattle.launches.specs.Groups.{HasGroups, launch_in};
+ghost use Rattle.group_join.specs.Ends.{EndsIn, flags_of};
 ghost use Rattle.ordered_runs.specs.Ordered.{is_order};
-ghost use Rattle.spaces.specs.Buffers.{bytes_in};
-ghost use Rattle.device.specs.Ends.{EndsBy, EndsInOrder};
+ghost use Rattle.device.specs.Ends.{EndsBy, EndsInOrder, HasFlags, IsLeft};
 
 use clmodel::access::Clash;
 use clmodel::determinacy::{clean_is_complete, determinacy};
 use clmodel::fault::Fault;
+use clmodel::outcome::Contents;
 use clmodel::run_laws::report_is_shown;
 use clmodel::schedule::Schedule;
-use clmodel::text::Bytes;
 use group_join::LaunchEnd;
 use item_step::Launch;
 use ordered_play::{OrderedEnd, run_ordered};
 use ordered_runs::laws::{order_is_met, other_reports_stay};
-use spaces::{Buffers, Changes, Plain};
+use spaces::{BufferMem, Buffers, Changes};
 use std::alloc::{AllocError, Global};
 
 /// How a launch ends, as it is answered. The launch's buffers are as they were.
 #[derive(Drop)]
 pub(crate) enum RunEnd {
-    /// Clean, with these changes of the launch's buffers, in their order
-    Clean(Vec<Changes>),
-    /// The ordered run without a report, after two accesses that met, with these bytes in the launch's buffers, in
-    /// their order
-    Ordered(Vec<Bytes>),
+    /// Clean, with these changes of the bytes of the launch's buffers, and of their flags, in their order
+    Clean(Vec<Changes>, Vec<Changes>),
+    /// The ordered run without a report, after two accesses that met, with this in the launch's buffers, in their order
+    Ordered(Vec<Contents>),
     /// With this report, after this schedule
     Faulted(Fault, Schedule),
 }
@@ -68,13 +66,14 @@ fn runs_again(orders: bool, fault: &Fault) -> bool
     orders && is_order(fault)
 }
 
-/// The bytes that spaces hold, in their order. An error is out of memory.
-fn contents_of(alloc: Global, spaces: Vec<Plain>) -> Result<Vec<Bytes>, AllocError>
-    ensures { IfOk result (λ contents. map (λ bytes. map Some bytes) contents.items ≡ spaces.items) }
+/// The bytes that spaces hold, and their flags, in their order. An error is out of memory.
+fn contents_of(alloc: Global, spaces: Vec<BufferMem>) -> Result<Vec<Contents>, AllocError>
+    ensures left { IfOk result (λ contents. IsLeft spaces.items (map (λ c. c.bytes) contents.items) (map (λ c. c.flags) contents.items)) }
+    ensures long { IfOk result (λ contents. All (λ c. length c.flags ≡ length c.bytes) contents.items) }
 {
     let mut contents = Vec::new(alloc);
     for space in spaces {
-        contents.push(Bytes::new(space.into_bytes()))?;
+        contents.push(space.into_contents(alloc)?)?;
     }
     Ok(contents)
 }
@@ -83,8 +82,9 @@ fn contents_of(alloc: Global, spaces: Vec<Plain>) -> Result<Vec<Bytes>, AllocErr
 /// they were for that run. An error is out of memory.
 fn run_again(alloc: Global, launch: &Launch<'_>, buffers: &Buffers) -> Result<RunEnd, AllocError>
     requires whole { HasGroups (setup_of launch.now) }
-    requires order { EndsInOrder (launch_of (setup_of launch.now) (bytes_in buffers.now)) }
-    ensures { IfOk result (EndsBy true (launch_of (setup_of launch.now) (bytes_in buffers.now))) }
+    requires order { EndsInOrder (launch_in (setup_of launch.now) buffers.now) }
+    ensures ends { IfOk result (EndsBy true (launch_in (setup_of launch.now) buffers.now) (flags_of (setup_of launch.now) buffers.now)) }
+    ensures flags { IfOk result HasFlags }
 {
     order_is_met();
     match run_ordered(alloc, launch, buffers)? {
@@ -104,15 +104,16 @@ pub(crate) fn run_to_end<R: FnOnce(Global, &Launch<'_>, &Buffers) -> Result<Laun
 ) -> Result<RunEnd, AllocError>
     requires whole { HasGroups (setup_of launch.now) }
     requires runs { (alloc : _) (launch : _) (buffers : _) → HasGroups (setup_of launch.now) → R.pre run alloc launch buffers }
-    requires concludes { (alloc : _) (launch : _) (buffers : _) (end : _) → R.post run alloc launch buffers end → IfOk end (EndsAs (launch_of (setup_of launch.now) (bytes_in buffers.now))) }
-    ensures { IfOk result (EndsBy orders (launch_of (setup_of launch.now) (bytes_in buffers.now))) }
+    requires concludes { (alloc : _) (launch : _) (buffers : _) (end : _) → R.post run alloc launch buffers end → IfOk end (EndsIn (setup_of launch.now) buffers.now) }
+    ensures ends { IfOk result (EndsBy orders (launch_in (setup_of launch.now) buffers.now) (flags_of (setup_of launch.now) buffers.now)) }
+    ensures flags { IfOk result HasFlags }
 {
     determinacy();
     clean_is_complete();
     report_is_shown();
     other_reports_stay();
     match run(alloc, launch, buffers)? {
-        LaunchEnd::Clean(changes) => Ok(RunEnd::Clean(changes)),
+        LaunchEnd::Clean(changes, cleared) => Ok(RunEnd::Clean(changes, cleared)),
         LaunchEnd::Faulted(fault, schedule) => {
             if runs_again(orders, &fault) {
                 run_again(alloc, launch, buffers)

@@ -33,6 +33,9 @@ reason_depth (reason.NotMultiple divided number of) text =
     let dimension_depth : depth (or_null number_data (dimension_of divided)) ≤ 0 = some number_data 0 (λ n. omega arith) (dimension_of divided) in
     omega arith
 reason_depth (reason.OutsideBuffer name offset count bytes) text = omega arith
+reason_depth (reason.ByteUnset name byte made) text =
+    let made_depth : depth (or_null made_data made) ≤ 1 = some made_data 1 made_depth made in
+    omega arith
 reason_depth (reason.Overlapping name offset other_offset count) text = omega arith
 reason_depth (reason.DimensionCounts global local offset) text = omega arith
 reason_depth (reason.OffsetTooLarge dimension offset size) text = omega arith
@@ -75,6 +78,7 @@ reason_whole (reason.ManyBuffers buffers limit) text = refl
 reason_whole (reason.PatternBytes bytes) text = refl
 reason_whole (reason.NotMultiple divided number of) text = rw (floats.some number_data (λ n. refl) (dimension_of divided))
 reason_whole (reason.OutsideBuffer name offset count bytes) text = refl
+reason_whole (reason.ByteUnset name byte made) text = rw (floats.some made_data (λ m. refl) made)
 reason_whole (reason.Overlapping name offset other_offset count) text = refl
 reason_whole (reason.DimensionCounts global local offset) text = refl
 reason_whole (reason.OffsetTooLarge dimension offset size) text = refl

@@ -119,6 +119,7 @@ reason_depth reason.NeverTogether text = omega arith
 reason_depth reason.VariableWithoutValue text = omega arith
 reason_depth reason.ElementWithoutValue text = omega arith
 reason_depth reason.QuotientTooLarge text = omega arith
+reason_depth (reason.NeverSet buffer) text = omega arith
 reason_depth reason.NothingStored text = omega arith
 reason_depth (reason.ZeroDivisor left) text = let number : depth (or_null left_data left) ≤ 0 = some left_data 0 (λ l. omega arith) left in omega arith
 reason_depth (reason.NearestStores below above) text =

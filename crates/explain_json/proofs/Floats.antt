@@ -88,6 +88,7 @@ reason_whole reason.NeverTogether text = refl
 reason_whole reason.VariableWithoutValue text = refl
 reason_whole reason.ElementWithoutValue text = refl
 reason_whole reason.QuotientTooLarge text = refl
+reason_whole (reason.NeverSet buffer) text = refl
 reason_whole reason.NothingStored text = refl
 reason_whole (reason.ZeroDivisor left) text = rw (some left_data (λ l. refl) left)
 reason_whole (reason.NearestStores below above) text = rw (some stored_data stored_whole below, some stored_data stored_whole above)

@@ -82,6 +82,10 @@ abbrev pub outside_data : ℕ → ℕ → String Global → ℕ → List ℕ →
 outside_data bytes count name offset text =
     object (member (codes "bytes") (number_data bytes) (member (codes "count") (number_data count) (member (codes "kind") (string (codes "outside_buffer")) (member (codes "name") (text_data name) (member (codes "offset") (number_data offset) (member (codes "text") (string text) no_members))))))
 
+abbrev pub unset_data : ℕ → Option MadeName → String Global → List ℕ → Data
+unset_data byte made name text =
+    object (member (codes "byte") (number_data byte) (member (codes "kind") (string (codes "byte_unset")) (member (codes "made") (or_null made_data made) (member (codes "name") (text_data name) (member (codes "text") (string text) no_members)))))
+
 abbrev pub overlap_data : ℕ → String Global → ℕ → ℕ → List ℕ → Data
 overlap_data count name offset other_offset text =
     object (member (codes "count") (number_data count) (member (codes "kind") (string (codes "overlapping")) (member (codes "name") (text_data name) (member (codes "offset") (number_data offset) (member (codes "other_offset") (number_data other_offset) (member (codes "text") (string text) no_members))))))
@@ -131,6 +135,7 @@ refusal_reason_data (reason.ManyBuffers buffers limit) text = many_data buffers 
 refusal_reason_data (reason.PatternBytes bytes) text = pattern_data bytes text
 refusal_reason_data (reason.NotMultiple divided number of) text = multiple_data divided number of text
 refusal_reason_data (reason.OutsideBuffer name offset count bytes) text = outside_data bytes count name offset text
+refusal_reason_data (reason.ByteUnset name byte made) text = unset_data byte made name text
 refusal_reason_data (reason.Overlapping name offset other_offset count) text = overlap_data count name offset other_offset text
 refusal_reason_data (reason.DimensionCounts global local offset) text = counts_data global local offset text
 refusal_reason_data (reason.OffsetTooLarge dimension offset size) text = large_offset_data dimension offset size text

@@ -73,6 +73,9 @@ elements_data name bytes elements width text =
 abbrev pub divisor_data : Option ℤ → List ℕ → Data
 divisor_data left text = object (member (codes "kind") (string (codes "zero_divisor")) (member (codes "left") (or_null left_data left) (member (codes "text") (string text) no_members)))
 
+abbrev pub never_set_data : String Global → List ℕ → Data
+never_set_data buffer text = object (member (codes "buffer") (text_data buffer) (member (codes "kind") (string (codes "never_set")) (member (codes "text") (string text) no_members)))
+
 abbrev pub nearest_data : Option StoredBytes → Option StoredBytes → List ℕ → Data
 nearest_data below above text =
     object (member (codes "above") (or_null stored_data above) (member (codes "below") (or_null stored_data below) (member (codes "kind") (string (codes "nearest_stores"))
@@ -103,6 +106,7 @@ reason_data reason.VariableWithoutValue text = plain_data (codes "variable_witho
 reason_data reason.ElementWithoutValue text = plain_data (codes "element_without_value") text
 reason_data reason.QuotientTooLarge text = plain_data (codes "quotient_too_large") text
 reason_data (reason.ZeroDivisor left) text = divisor_data left text
+reason_data (reason.NeverSet buffer) text = never_set_data buffer text
 reason_data reason.NothingStored text = plain_data (codes "nothing_stored") text
 reason_data (reason.NearestStores below above) text = nearest_data below above text
 reason_data (reason.Budget spent) text = budget_data spent text

@@ -6,7 +6,7 @@ ghost use Rattle.std.specs.Prelude.{◌≡◌, Some, string_bytes, IfOk};
 ghost use Rattle.serde_json.specs.Data.{array, item, no_items};
 ghost use Rattle.serde_json.specs.View.{view};
 ghost use Rattle.explain_json.specs.Members.{left_data, or_null};
-ghost use Rattle.explain_json.specs.Commands.{IsCommandData, IsCommandLine, IsWhy, command_fault_data, dimension_of, divided_word, kind_data, kind_word, limited_word, made_data, refusal_reason_data, word_spot_data, counts_data, kernel_data, large_offset_data, limit_data, many_data, missing_data, multiple_data, no_parameter_data, other_argument_data, outside_data, outside_type_data, overlap_data, pattern_data, taken_data, unknown_data, used_data, zero_data};
+ghost use Rattle.explain_json.specs.Commands.{IsCommandData, IsCommandLine, IsWhy, command_fault_data, dimension_of, divided_word, kind_data, kind_word, limited_word, made_data, refusal_reason_data, word_spot_data, counts_data, kernel_data, large_offset_data, limit_data, many_data, missing_data, multiple_data, no_parameter_data, other_argument_data, outside_data, outside_type_data, overlap_data, pattern_data, taken_data, unknown_data, unset_data, used_data, zero_data};
 
 use crate::object::Object;
 use crate::reasons::plain_value;
@@ -230,6 +230,25 @@ fn outside_value(
         .finish()
 }
 
+/// A byte that is unset.
+fn unset_value(
+    alloc: Global,
+    byte: u64,
+    made: &Option<MadeName>,
+    name: &String,
+    text: &str,
+) -> Result<Value, AllocError>
+    ensures { IfOk result (λ value. view value ≡ unset_data byte made.now name.now text.now) }
+{
+    Object::new(alloc)
+        .with_text("text", text)
+        .with("name", name)
+        .with("made", made)
+        .with_text("kind", "byte_unset")
+        .with("byte", &byte)
+        .finish()
+}
+
 /// Two ranges that share bytes.
 fn overlap_value(
     alloc: Global,
@@ -431,6 +450,9 @@ fn reason_value(alloc: Global, reason: &RefusalReason, text: &str) -> Result<Val
             count,
             bytes,
         } => outside_value(alloc, *bytes, *count, name, *offset, text),
+        RefusalReason::ByteUnset { name, byte, made } => unset_value(
+            alloc, *byte, made, name, text,
+        ),
         RefusalReason::Overlapping {
             name,
             offset,

@@ -6,7 +6,7 @@ ghost use Rattle.serde_json.specs.Data.{array};
 ghost use Rattle.serde_json.specs.View.{items_of, view};
 ghost use Rattle.explain_text.specs.Texts.{IsWorded};
 ghost use Rattle.explain_json.specs.Members.{or_null, left_data};
-ghost use Rattle.explain_json.specs.Reasons.{AreReasons, budget_data, classes_data, counted_word, divisor_data, elements_data, group_data, groups_data, loop_turns_data, nearest_data, other_loops_data, plain_data, reason_data, space_word, stored_data, unfenced_data};
+ghost use Rattle.explain_json.specs.Reasons.{AreReasons, budget_data, classes_data, counted_word, divisor_data, elements_data, group_data, groups_data, loop_turns_data, nearest_data, never_set_data, other_loops_data, plain_data, reason_data, space_word, stored_data, unfenced_data};
 
 use crate::object::Object;
 use crate::values::ToJson;
@@ -185,6 +185,17 @@ fn divisor_value(alloc: Global, left: Option<i128>, text: &str) -> Result<Value,
         .finish()
 }
 
+/// A buffer of which nothing set a byte.
+fn never_set_value(alloc: Global, buffer: &String, text: &str) -> Result<Value, AllocError>
+    ensures { IfOk result (λ value. view value ≡ never_set_data buffer.now text.now) }
+{
+    Object::new(alloc)
+        .with_text("text", text)
+        .with_text("kind", "never_set")
+        .with("buffer", buffer)
+        .finish()
+}
+
 /// The stores nearest to an unset byte.
 fn nearest_value(
     alloc: Global,
@@ -251,6 +262,7 @@ fn reason_value(alloc: Global, reason: &Reason, text: &str) -> Result<Value, All
         Reason::ElementWithoutValue => plain_value(alloc, "element_without_value", text),
         Reason::QuotientTooLarge => plain_value(alloc, "quotient_too_large", text),
         Reason::ZeroDivisor { left } => divisor_value(alloc, *left, text),
+        Reason::NeverSet { buffer } => never_set_value(alloc, buffer, text),
         Reason::NothingStored => plain_value(alloc, "nothing_stored", text),
         Reason::NearestStores { below, above } => nearest_value(alloc, below, above, text),
         Reason::Budget(budget) => budget_value(alloc, budget, text),

@@ -104,20 +104,32 @@ IsSpent played size budget _ = ⊥
 abbrev pub IsAlone : (Reason → Type 0) → List Reason → Type 0
 IsAlone p why = (r : Reason) × (why ≡ r ∷ []) × p r
 
+-- nothing set a byte of the buffer of a name before the launch
+abbrev pub IsNeverSet : List ℕ → Reason → Type 0
+IsNeverSet name (reason.NeverSet buffer) = string_bytes buffer ≡ utf8_lossy name
+IsNeverSet name _ = ⊥
+
+-- Why a byte is unset: of a buffer that nothing set it before the launch, and then what was stored beside it by then
+-- (C99 6.7.8).
+abbrev pub AreUnset : Played → Location → ℕ → List Reason → Type 0
+AreUnset played (location.Buffer name) byte why =
+    (never : Reason) × (stored : Reason) × (why ≡ never ∷ stored ∷ []) × IsNeverSet name never × IsUnset played (location.Buffer name) byte stored
+AreUnset played (location.Local group name) byte why = IsAlone (IsUnset played (location.Local group name) byte) why
+
 -- what doesn't order the two accesses of a conflict, and why their order matters
 abbrev pub AreClashing : ℕ → Played → Clash → AccessKind × AccessKind → Location → List Reason → Type 0
 AreClashing size played clash kinds place why =
     (order : Reason) × (matter : Reason) × (why ≡ order ∷ matter ∷ []) × IsUnordered played (played.first.item / size) (played.second.item / size) place order
     × Matters played clash kinds matter
 
--- The reasons of a fault that was played, in a launch with groups of this size: of a conflict two, of every other fault
--- one or, of an element out of bounds, none.
+-- The reasons of a fault that was played, in a launch with groups of this size: of a conflict and of an unset byte of a
+-- buffer two, of every other fault one or, of an element out of bounds, none.
 abbrev pub AreReasons : ℕ → Played → Fault → Option Memory → ℕ → List Reason → Type 0
 AreReasons size played (fault.Conflict clash item kind other_item other_kind place byte) memory budget why = AreClashing size played clash (kind, other_kind) place why
 AreReasons size played (fault.Divergence item one other_item other) memory budget why = why ≡ reason.NeverTogether ∷ []
 AreReasons size played (fault.Bounds item kind place element) memory budget why = AreBounds memory (size_of memory) played.first.width why
 AreReasons size played (fault.PrivateBounds item array element) memory budget why = IsAlone (IsPrivate array) why
-AreReasons size played (fault.Unset item kind place byte) memory budget why = IsAlone (IsUnset played place byte) why
+AreReasons size played (fault.Unset item kind place byte) memory budget why = AreUnset played place byte why
 AreReasons size played (fault.UnsetVariable item variable) memory budget why = why ≡ reason.VariableWithoutValue ∷ []
 AreReasons size played (fault.UnsetElement item array element) memory budget why = why ≡ reason.ElementWithoutValue ∷ []
 AreReasons size played (fault.DivideByZero item) memory budget why = why ≡ reason.ZeroDivisor (option_map (λ value. value.number) played.first.dividend) ∷ []

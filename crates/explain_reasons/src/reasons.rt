@@ -8,7 +8,7 @@ ghost use Rattle.clmodel.specs.Setup.{group_items};
 ghost use Rattle.item_step.specs.Launches.{setup_of};
 ghost use Rattle.fault_play.specs.PlayedOut.{IsLastEvent};
 ghost use Rattle.explain_reasons.specs.Between.{IsBetween, IsLastBetween, LeaveOne, LeaveTheSame, Leaves, PassesBetween, PassesLast, TouchTheSame, passes_at, releases_at};
-ghost use Rattle.explain_reasons.specs.Reasons.{AreBounds, AreClashing, AreElements, AreReasons, AreUpdates, IsAlone, IsPrivate, IsSpent, IsUnordered, IsUnset, Matters, WithStore, memory_of, size_of};
+ghost use Rattle.explain_reasons.specs.Reasons.{AreBounds, AreClashing, AreElements, AreReasons, AreUnset, AreUpdates, IsAlone, IsNeverSet, IsPrivate, IsSpent, IsUnordered, Matters, WithStore, memory_of, size_of};
 
 use crate::arrays::array_of;
 use crate::budget::budget_use;
@@ -362,6 +362,15 @@ fn budget_reasons(
     one(context.alloc, Reason::Budget(used))
 }
 
+/// That nothing has left a value in a byte of a buffer before the launch.
+fn never_set(alloc: Global, buffer: &Name) -> Result<Reason, AllocError>
+    ensures { IfOk result (IsNeverSet buffer.now) }
+{
+    Ok(Reason::NeverSet {
+        buffer: String::from_utf8_lossy(alloc, buffer.as_slice())?,
+    })
+}
+
 /// Why a byte is unset.
 fn unset_reasons(
     context: &Context<'_>,
@@ -369,10 +378,13 @@ fn unset_reasons(
     location: &Location,
     byte: u64,
 ) -> Result<Vec<Reason>, AllocError>
-    ensures { IfOk result (λ why. IsAlone (IsUnset played.now location.now byte) why.items) }
+    ensures { IfOk result (λ why. AreUnset played.now location.now byte why.items) }
 {
-    let reason = unset_reason(context, played, location, byte)?;
-    one(context.alloc, reason)
+    let stored = unset_reason(context, played, location, byte)?;
+    match location {
+        Location::Buffer(name) => two(context.alloc, never_set(context.alloc, name)?, stored),
+        Location::Local { .. } => one(context.alloc, stored),
+    }
 }
 
 /// Why an element is outside of a private array, as the one reason.

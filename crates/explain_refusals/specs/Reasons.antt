@@ -4,6 +4,7 @@ use Rattle.std.specs.Prelude.{◌≡◌, ◌≢◌, ◌<◌, ◌≤◌, ◌+◌,
 use Rattle.std.specs.Option.{IfSome}
 use Rattle.std.specs.Str.Lossy.{utf8_lossy}
 use Rattle.std.specs.declared.alloc.Global.{Global}
+use Rattle.clmodel.specs.Cells.{is_flagged}
 use Rattle.clmodel.specs.Setup.{product}
 use Rattle.clmodel.specs.declared.setup.Argument.TheVariants as argument
 use Rattle.refused_commands.specs.declared.told.Divided.{Divided}
@@ -20,7 +21,8 @@ use Rattle.host_commands.specs.Fills.{is_pattern_size}
 use Rattle.host_commands.specs.declared.command.Command.{Command}
 use Rattle.host_commands.specs.declared.command.Command.TheVariants as command
 use Rattle.limits.specs.declared.Limits.{Limits}
-use Rattle.spaces.specs.Buffers.{bytes_in}
+use Rattle.spaces.specs.Buffers.{row_in}
+use Rattle.spaces.specs.Parts.{lowest_marked}
 use Rattle.spaces.specs.Tables.{Table, find}
 
 -- a name as text
@@ -37,7 +39,12 @@ IsRange _ name offset count = ⊥
 
 -- the end of a buffer lies before that of a range
 abbrev pub Passes : Table (List ℕ) → List ℕ → ℕ → ℕ → ℕ → Type 0
-Passes buffers name offset count bytes = (bytes ≡ length (bytes_in buffers name)) × (bytes < offset + count)
+Passes buffers name offset count bytes = (bytes ≡ length (row_in buffers name)) × (bytes < offset + count)
+
+-- a byte of the buffer of a name is the lowest of those that a read is to read which is unset (C99 6.7.8)
+abbrev pub IsLowest : Table (List ℕ) → Command → List ℕ → ℕ → Type 0
+IsLowest flags (command.Read buffer at n) name byte = (name ≡ buffer) × (lowest_marked (is_flagged (row_in flags buffer)) at n ≡ Some byte)
+IsLowest flags _ name byte = ⊥
 
 -- a command names a buffer
 abbrev pub NamesBuffer : Command → List ℕ → Type 0
@@ -51,7 +58,7 @@ NamesBuffer _ name = ⊥
 -- a number of a command that the device limits, and its limit; of a product that is too large for 64 bits the greatest
 -- number that they hold
 abbrev pub IsLimited : Limits → Command → Limited → ℕ → ℕ → Type 0
-IsLimited limits (command.Buffer name size) bound.BufferBytes number limit = (number ≡ size) × (limit ≡ limits.buffer_bytes)
+IsLimited limits (command.Buffer name size unset) bound.BufferBytes number limit = (number ≡ size) × (limit ≡ limits.buffer_bytes)
 IsLimited limits (command.Launch kernel range orders) bound.GroupItems number limit = (number ≡ min (product range.local) (2 ^ 64 - 1)) × (limit ≡ limits.group_items)
 IsLimited limits (command.Launch kernel range orders) bound.Items number limit = (number ≡ min (product range.global) (2 ^ 64 - 1)) × (limit ≡ limits.items)
 IsLimited limits (command.Launch kernel range orders) bound.LocalBytes number limit = limit ≡ limits.local_bytes
@@ -60,7 +67,7 @@ IsLimited limits _ _ number limit = ⊥
 
 -- a count or a size of a command
 abbrev pub IsCount : Command → ℕ → Type 0
-IsCount (command.Buffer name size) n = n ≡ size
+IsCount (command.Buffer name size unset) n = n ≡ size
 IsCount (command.Write buffer at bytes) n = n ≡ length bytes
 IsCount (command.Fill buffer at count pattern) n = n ≡ count
 IsCount (command.Copy source at target to count) n = n ≡ count
@@ -106,28 +113,29 @@ abbrev pub IsMissing : Table (List ℕ) → Command → String Global → Option
 IsMissing buffers c text (Some kinds.Buffer) = (name : List ℕ) × NamesBuffer c name × IsTold name text × (find buffers name ≡ None)
 IsMissing buffers c text _ = ⊤
 
--- A reason holds of a command, as far as limits, buffers and the command itself decide it.
-abbrev pub Holds : Limits → Table (List ℕ) → Command → RefusalReason → Type 0
-Holds limits buffers c (reason.NameTaken name made) = ⊤
-Holds limits buffers c (reason.NameUnknown name wanted known other) = IsMissing buffers c name wanted
-Holds limits buffers c reason.NoBytes = IsCount c 0
-Holds limits buffers c (reason.PastLimit limited number limit) = IsLimited limits c limited number limit × (limit < number)
-Holds limits buffers c (reason.ManyBuffers number limit) = (number ≡ length buffers) × (limit ≡ limits.buffers) × (limit ≤ number)
-Holds limits buffers c (reason.PatternBytes bytes) = is_pattern_size bytes ≡ false
-Holds limits buffers c (reason.NotMultiple divided number of) = Divides c divided number of × (0 < of) × (number % of ≢ 0)
-Holds limits buffers c (reason.OutsideBuffer text offset count bytes) =
+-- A reason holds of a command, as far as limits, the buffers with their flags and the command itself decide it.
+abbrev pub Holds : Limits → Table (List ℕ) → Table (List ℕ) → Command → RefusalReason → Type 0
+Holds limits buffers flags c (reason.NameTaken name made) = ⊤
+Holds limits buffers flags c (reason.NameUnknown name wanted known other) = IsMissing buffers c name wanted
+Holds limits buffers flags c reason.NoBytes = IsCount c 0
+Holds limits buffers flags c (reason.PastLimit limited number limit) = IsLimited limits c limited number limit × (limit < number)
+Holds limits buffers flags c (reason.ManyBuffers number limit) = (number ≡ length buffers) × (limit ≡ limits.buffers) × (limit ≤ number)
+Holds limits buffers flags c (reason.PatternBytes bytes) = is_pattern_size bytes ≡ false
+Holds limits buffers flags c (reason.NotMultiple divided number of) = Divides c divided number of × (0 < of) × (number % of ≢ 0)
+Holds limits buffers flags c (reason.OutsideBuffer text offset count bytes) =
     (name : List ℕ) × IsTold name text × IsRange c name offset count × Passes buffers name offset count bytes
-Holds limits buffers c (reason.Overlapping text offset other count) = (name : List ℕ) × IsTold name text × Overlaps c name offset other count
-Holds limits buffers c (reason.DimensionCounts global local offset) = HasCounts c global local offset × IsBadCount global local offset
-Holds limits buffers c (reason.OffsetTooLarge dimension offset size) = HasOffset c dimension offset size × (2 ^ 64 - 1 < offset + size)
-Holds limits buffers c (reason.ZeroSize dimension) = HasZero c dimension
-Holds limits buffers c (reason.KernelUnknown function program known) = ⊤
-Holds limits buffers c (reason.NoParameter index parameters) = parameters ≤ index
-Holds limits buffers c (reason.OtherArgument parameter) = ⊤
-Holds limits buffers c (reason.OutsideType parameter number) = ⊤
-Holds limits buffers c (reason.ArgumentsMissing parameters) = ⊤
-Holds limits buffers c (reason.StillUsed name kernels) = ⊤
+Holds limits buffers flags c (reason.Overlapping text offset other count) = (name : List ℕ) × IsTold name text × Overlaps c name offset other count
+Holds limits buffers flags c (reason.DimensionCounts global local offset) = HasCounts c global local offset × IsBadCount global local offset
+Holds limits buffers flags c (reason.OffsetTooLarge dimension offset size) = HasOffset c dimension offset size × (2 ^ 64 - 1 < offset + size)
+Holds limits buffers flags c (reason.ZeroSize dimension) = HasZero c dimension
+Holds limits buffers flags c (reason.KernelUnknown function program known) = ⊤
+Holds limits buffers flags c (reason.NoParameter index parameters) = parameters ≤ index
+Holds limits buffers flags c (reason.OtherArgument parameter) = ⊤
+Holds limits buffers flags c (reason.OutsideType parameter number) = ⊤
+Holds limits buffers flags c (reason.ArgumentsMissing parameters) = ⊤
+Holds limits buffers flags c (reason.StillUsed name kernels) = ⊤
+Holds limits buffers flags c (reason.ByteUnset text byte made) = (name : List ℕ) × IsTold name text × IsLowest flags c name byte
 
 -- a reason that was found holds, by what is known where a command is refused
 abbrev pub HoldsOf : Refusing → Command → Option Found → Type 0
-HoldsOf refusing c found = IfSome found (λ f. Holds refusing.limits refusing.buffers.now c f.reason)
+HoldsOf refusing c found = IfSome found (λ f. Holds refusing.limits refusing.buffers.now.bytes refusing.buffers.now.flags c f.reason)

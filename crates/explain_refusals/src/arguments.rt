@@ -89,7 +89,7 @@ fn other_kind(
     parameter: &Parameter,
     argument: &Argument,
 ) -> Result<Found, AllocError>
-    ensures { (c : CommandOf) → IfOk result (λ f. Holds refusing.now.limits refusing.now.buffers.now c f.reason) }
+    ensures { (c : CommandOf) → IfOk result (λ f. Holds refusing.now.limits refusing.now.buffers.now.bytes refusing.now.buffers.now.flags c f.reason) }
 {
     let told = tree.told_parameter(refusing.alloc, index, parameter)?;
     match (parameter.kind, argument) {

@@ -1,7 +1,7 @@
 //! Why a command on buffers was refused (OpenCL 1.2, section 5.2).
 #![tactic(auto)]
 
-ghost use Rattle.std.specs.Prelude.{◌≡◌, IfOk, None};
+ghost use Rattle.std.specs.Prelude.{◌≡◌, Bool, IfOk, None};
 ghost use Rattle.host_commands.specs.declared.command.Command.{Command as CommandOf};
 ghost use Rattle.host_commands.specs.declared.command.Command.TheVariants as command;
 ghost use Rattle.host_commands.specs.Fills.{is_pattern_size};
@@ -17,8 +17,8 @@ use std::alloc::AllocError;
 
 /// A buffer that isn't there.
 fn unknown_buffer(refusing: &Refusing<'_>, name: &Name, word: usize) -> Result<Found, AllocError>
-    requires { find refusing.now.buffers.now name.now ≡ None }
-    ensures { (c : CommandOf) → NamesBuffer c name.now → IfOk result (λ f. Holds refusing.now.limits refusing.now.buffers.now c f.reason) }
+    requires { find refusing.now.buffers.now.bytes name.now ≡ None }
+    ensures { (c : CommandOf) → NamesBuffer c name.now → IfOk result (λ f. Holds refusing.now.limits refusing.now.buffers.now.bytes refusing.now.buffers.now.flags c f.reason) }
 {
     let (alloc, places) = (refusing.alloc, refusing.places);
     let there = names_there(alloc, refusing.before)?;
@@ -39,7 +39,7 @@ pub(crate) fn missing_buffer(
 ) -> Result<Option<Found>, AllocError>
     ensures { (c : CommandOf) → NamesBuffer c name.now → IfOk result (HoldsOf refusing.now c) }
 {
-    match refusing.buffers.get(name) {
+    match refusing.buffers.bytes.get(name) {
         Some(_) => Ok(None),
         None => Ok(Some(unknown_buffer(refusing, name, word)?)),
     }
@@ -88,7 +88,7 @@ pub(crate) fn buffer_reason(
     size: u64,
     refusal: Refusal,
 ) -> Result<Option<Found>, AllocError>
-    ensures { IfOk result (HoldsOf refusing.now (command.Buffer name.now size)) }
+    ensures { (unset : Bool) → IfOk result (HoldsOf refusing.now (command.Buffer name.now size unset)) }
 {
     match refusal {
         Refusal::NameInUse => taken(refusing, name),
@@ -127,7 +127,7 @@ fn many_buffers(refusing: &Refusing<'_>) -> Option<Found>
     ensures { (c : CommandOf) → HoldsOf refusing.now c result }
 {
     let limit = refusing.limits.buffers as u64;
-    let buffers = refusing.buffers.len() as u64;
+    let buffers = refusing.buffers.bytes.len() as u64;
     if buffers < limit {
         return None;
     }
@@ -153,6 +153,46 @@ pub(crate) fn range_reason(
         Refusal::BadSize => Ok(no_bytes(refusing, count, 3)),
         Refusal::OutOfRange => outside(refusing, buffer, offset, count, 2),
         _ => Ok(None),
+    }
+}
+
+/// An unset byte that a read is to read, if there is one: the lowest.
+fn unset_byte(
+    refusing: &Refusing<'_>,
+    name: &Name,
+    offset: u64,
+    count: u64,
+) -> Result<Option<Found>, AllocError>
+    ensures { IfOk result (HoldsOf refusing.now (command.Read name.now offset count)) }
+{
+    if offset > u64::MAX - count {
+        return Ok(None);
+    }
+    let Some(byte) = refusing.buffers.lowest_unset(name, offset, count) else {
+        return Ok(None);
+    };
+    let there = names_there(refusing.alloc, refusing.before)?;
+    let reason = RefusalReason::ByteUnset {
+        name: text_of(refusing.alloc, name)?,
+        byte,
+        made: told_of(refusing.alloc, refusing.places, there.as_slice(), name)?,
+    };
+    Ok(Some(Found { reason, word: 1 }))
+}
+
+/// Why bytes of a buffer aren't read.
+pub(crate) fn read_reason(
+    refusing: &Refusing<'_>,
+    buffer: &Name,
+    offset: u64,
+    count: u64,
+    refusal: Refusal,
+) -> Result<Option<Found>, AllocError>
+    ensures { IfOk result (HoldsOf refusing.now (command.Read buffer.now offset count)) }
+{
+    match refusal {
+        Refusal::UnsetBytes { .. } => unset_byte(refusing, buffer, offset, count),
+        _ => range_reason(refusing, buffer, offset, count, refusal),
     }
 }
 

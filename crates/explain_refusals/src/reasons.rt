@@ -6,7 +6,7 @@ ghost use Rattle.host_commands.specs.declared.command.Command.{Command as Comman
 ghost use Rattle.explain_refusals.specs.Reasons.{HoldsOf};
 
 use crate::arguments::{arg_reason, arguments_of, is_buffer};
-use crate::buffers::{buffer_reason, fill_reason, range_reason};
+use crate::buffers::{buffer_reason, fill_reason, range_reason, read_reason};
 use crate::copies::{Copied, copy_reason};
 use crate::launches::launch_reason;
 use crate::names::{Made, names_there, text_of, told_name, told_names, told_of};
@@ -184,7 +184,7 @@ pub fn reason_of(
     ensures { IfOk result (HoldsOf refusing.now command.now) }
 {
     match command {
-        Command::Buffer { name, size } => buffer_reason(refusing, name, *size, refusal),
+        Command::Buffer { name, size, .. } => buffer_reason(refusing, name, *size, refusal),
         Command::Write {
             buffer,
             offset,
@@ -216,7 +216,7 @@ pub fn reason_of(
             buffer,
             offset,
             count,
-        } => range_reason(refusing, buffer, *offset, *count, refusal),
+        } => read_reason(refusing, buffer, *offset, *count, refusal),
         Command::Release { name } => release_reason(refusing, name, refusal),
         Command::Program { name, .. } => program_reason(refusing, name, refusal),
         Command::Kernel {

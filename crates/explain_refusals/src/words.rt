@@ -27,6 +27,7 @@ pub fn refusal_words(refusal: Refusal) -> (u32, &'static str)
         Refusal::LocalTooLarge => (14, "LocalTooLarge"),
         Refusal::InUse => (15, "InUse"),
         Refusal::OutOfMemory => (16, "OutOfMemory"),
+        Refusal::UnsetBytes { .. } => (17, "UnsetBytes"),
     }
 }
 

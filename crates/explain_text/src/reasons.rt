@@ -275,6 +275,7 @@ fn plain_words(reason: &Reason) -> &'static str {
         | Reason::Classes { .. }
         | Reason::Elements { .. }
         | Reason::ZeroDivisor { .. }
+        | Reason::NeverSet { .. }
         | Reason::NearestStores { .. }
         | Reason::Budget(_) => "",
     }
@@ -302,6 +303,9 @@ fn words_of(alloc: Global, reason: &Reason) -> Result<String, AllocError> {
             width,
         } => elements_words(alloc, name.as_str(), *bytes, *elements, *width),
         Reason::ZeroDivisor { left } => divisor_words(alloc, *left),
+        Reason::NeverSet { buffer } => format!(in alloc;
+            "no command and no launch before this one has left a value in this byte of buffer {buffer}"
+        ),
         Reason::NearestStores { below, above } => nearest_words(alloc, below, above),
         Reason::Budget(budget) => budget_words(alloc, budget),
         _ => String::from_str(alloc, plain_words(reason)),

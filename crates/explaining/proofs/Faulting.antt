@@ -4,13 +4,12 @@ use Rattle.std.specs.Prelude.{MatchOption, slice_get}
 use Rattle.std.proofs.lemmas.Bool.{false≢true}
 use Rattle.clmodel.proofs.Steps.{none_some, some_inj}
 use Rattle.clmodel.specs.Law.{Reaches}
-use Rattle.clmodel.specs.Next.{launch_of}
 use Rattle.clmodel.specs.Outcome.{events_of}
 use Rattle.clmodel.specs.Setup.{Setup}
 use Rattle.clmodel.specs.Tree.{Program}
 use Rattle.clmodel.specs.declared.fault.Fault.{Fault}
 use Rattle.clmodel.specs.declared.schedule.EventRun.{EventRun}
-use Rattle.device.specs.Machine.{Machine, Built, Does, LaunchesBy, Step, bytes_of, first, kernel_of, launch_row, row, setup_of}
+use Rattle.device.specs.Machine.{Machine, Built, Does, LaunchesBy, Step, first, kernel_of, launch_at, launch_row, row, setup_of}
 use Rattle.host_commands.specs.declared.command.BuildFault.{BuildFault}
 use Rattle.host_commands.specs.declared.command.Command.{Command}
 use Rattle.host_commands.specs.declared.command.Command.TheVariants as command
@@ -25,7 +24,7 @@ use Rattle.simfile.specs.declared.faults.RunFault.TheVariants as fault
 -- a command is a launch that its row doesn't refuse, and that a schedule leads to a fault
 abbrev pub Faults : Machine → Fault → List EventRun → Command → Type 0
 Faults m f runs (command.Launch kernel range orders) =
-    (first (launch_row m kernel range) ≡ None) × Reaches (launch_of (setup_of m (kernel_of m kernel) range) (bytes_of m)) (events_of runs) f
+    (first (launch_row m kernel range) ≡ None) × Reaches (launch_at m (setup_of m (kernel_of m kernel) range)) (events_of runs) f
 Faults m f runs _ = ⊥
 
 is_fault : Reply → Bool
@@ -44,13 +43,13 @@ built old new name (Err e) f runs h = no_fault f runs _ refl h.0
 -- a fault of a launch is one to which its schedule leads, with `orders` and without, and no machine changes
 launch_told :
     (orders : Bool) (old : Machine) (setup : Setup) (f : Fault) (runs : List EventRun) (new : Machine) → LaunchesBy orders old setup (reply.Fault f runs) new
-    → Reaches (launch_of setup (bytes_of old)) (events_of runs) f × (new ≡ old)
+    → Reaches (launch_at old setup) (events_of runs) f × (new ≡ old)
 launch_told true old setup f runs new (reaches, reported, merged, same) = (reaches, same)
 launch_told false old setup f runs new (reaches, reported, merged, same) = (reaches, same)
 
 does : (old new : Machine) (c : Command) (f : Fault) (runs : List EventRun) → first (row old c) ≡ None → Does old c (reply.Fault f runs) new → Faults new f runs c
 unfolding is_fault
-does old new (command.Buffer name size) f runs e h = absurd (no_fault f runs reply.Done refl h.0)
+does old new (command.Buffer name size unset) f runs e h = absurd (no_fault f runs reply.Done refl h.0)
 does old new (command.Write name at bytes) f runs e h = absurd (no_fault f runs reply.Done refl h.0)
 does old new (command.Fill name at count pattern) f runs e h = absurd (no_fault f runs reply.Done refl h.0)
 does old new (command.Copy source at target to count) f runs e h = absurd (no_fault f runs reply.Done refl h.0)

@@ -79,7 +79,7 @@ pub record TellsFaulted (options : ExplainOptions) (name : List ℕ) (script : P
 -- a text of a refused command, behind which a machine is this one, as it was before; any text where a build was refused
 abbrev pub TellsAnyRefusal : ExplainOptions → List ℕ → PlacedScript → List Command → Machine → ℕ → Refusal → List ℕ → Type 0
 TellsAnyRefusal options name script commands machine ticket why text =
-    ((fault : BuildFault) × (why ≡ refusal.BuildFailed fault)) ⊎ TellsRefusal options.configuration.limits machine.buffers options.format name script commands ticket why text
+    ((fault : BuildFault) × (why ≡ refusal.BuildFailed fault)) ⊎ TellsRefusal options.configuration.limits machine.buffers machine.flags options.format name script commands ticket why text
 
 -- a text of the reply to the command of a number, behind which a machine is this one, and these commands were done:
 -- only of a fault or a refusal

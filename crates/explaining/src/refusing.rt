@@ -65,7 +65,7 @@ fn reason_at(
     case: RefusedCase,
 ) -> Result<Option<Found>, AllocError>
     ensures { (command : CommandOf) → slice_get performed.now.commands.now case.ticket ≡ Some command
-        → IfOk result (λ found. IfSome found (λ f. Holds performed.now.options.configuration.limits (machine_of device.now).buffers command f.reason)) }
+        → IfOk result (λ found. IfSome found (λ f. Holds performed.now.options.configuration.limits (machine_of device.now).buffers (machine_of device.now).flags command f.reason)) }
 {
     let Some(command) = performed.commands.get(case.ticket) else {
         return Ok(None);
@@ -100,8 +100,13 @@ pub(crate) fn explain_refused(
 ) -> Result<String, AllocError>
     requires placed { HasPlaces performed.now.told performed.now.commands.now }
     requires within { case.ticket < length performed.now.commands.now }
+<<<<<<< ours
     ensures { IfOk result (λ text. TellsRefusal performed.now.options.configuration.limits (machine_of device.now).buffers performed.now.options.format
         performed.now.given.name.now performed.now.told performed.now.commands.now case.ticket case.refusal (string_bytes text)) }
+=======
+    ensures { IfOk result (λ text. TellsRefusal performed.now.options.configuration.limits (machine_of device.now).buffers (machine_of device.now).flags performed.now.options.format
+        performed.now.given.name.now performed.now.given.script.now performed.now.commands.now case.ticket case.refusal (string_bytes text)) }
+>>>>>>> theirs
 {
     let found = reason_at(alloc, device, performed, case)?;
     let place = performed.told.place(case.ticket);

@@ -125,6 +125,11 @@ pub enum Reason {
     ZeroDivisor {
         left: Option<i128>,
     },
+    /// No command and no launch before this one has left a value in the byte of a buffer: nothing has set it, or a copy of
+    /// unset bytes came last.
+    NeverSet {
+        buffer: String,
+    },
     /// No item has stored anything in the object by then.
     NothingStored,
     /// The bytes that were stored nearest to one that is unset: below it and above it

@@ -1,5 +1,5 @@
 -- How an order goes on, event by event, and how it ends.
-use Rattle.std.proofs.Common.{◌≡◌, ℕ, ◌+◌, ◌<◌, ◌/◌, Bool, true, false, Option, None, Some, List, [], ◌∷◌, ◌++◌, length, map, map-id, IfSome, refl, sym, ap, ◌∙◌, subst, arith}
+use Rattle.std.proofs.Common.{◌≡◌, ℕ, ◌+◌, ◌<◌, ◌/◌, Bool, true, false, Option, None, Some, List, [], ◌∷◌, ◌++◌, length, map-id, IfSome, refl, sym, ap, ◌∙◌, subst, arith}
 use Rattle.std.proofs.lemmas.List.{length-append}
 use Rattle.std.specs.Option.{option_and_then}
 use Rattle.clmodel.specs.Launch.{Launch, group_of}
@@ -118,8 +118,6 @@ buffers_left l m xs h =
 
 -- an order in which each item has ended leaves what the spaces hold
 pub ends :
-    (l : Launch) (fits : State → Type 0) (events : Events) (spaces : List (List (Option ℕ))) (bytes : List (List ℕ)) (led : Led l fits events)
-    → IsComplete l led.state → SpacesHold (λ b. b) l (length l.buffers) region.Buffer spaces led.state.memory → map (λ b. map Some b) bytes ≡ spaces
-    → Leaves l events (map (λ b. map Some b) bytes)
-ends l fits events spaces bytes led complete holds same =
-    (led.state, led.leads, complete, buffers_left l led.state.memory spaces holds ∙ sym same)
+    (l : Launch) (fits : State → Type 0) (events : Events) (spaces : List (List (Option ℕ))) (led : Led l fits events)
+    → IsComplete l led.state → SpacesHold (λ b. b) l (length l.buffers) region.Buffer spaces led.state.memory → Leaves l events spaces
+ends l fits events spaces led complete holds = (led.state, led.leads, complete, buffers_left l led.state.memory spaces holds)

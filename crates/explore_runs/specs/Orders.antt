@@ -1,5 +1,5 @@
 -- Orders of a launch's events, and how they end (own, on OpenCL 1.2, 3.2).
-use Rattle.std.specs.Prelude.{◌≡◌, false, Option, None, Some, map}
+use Rattle.std.specs.Prelude.{◌≡◌, false, Option, None, Some}
 use Rattle.clmodel.specs.Launch.{Launch}
 use Rattle.clmodel.specs.Law.{Leaves, Reaches}
 use Rattle.clmodel.specs.Outcome.{events_of, IsMerged}
@@ -22,9 +22,9 @@ abbrev pub LedOrShown : Launch → (State → Type 0) → Events → Option Faul
 LedOrShown launch fits events None = Led launch fits events
 LedOrShown launch fits events (Some fault) = Reaches launch events fault × (is_order fault ≡ false)
 
--- a complete schedule, in runs as long as can be, which leaves these bytes in the buffers (5.2.2)
+-- a complete schedule, in runs as long as can be, which leaves this in the buffers (5.2.2)
 abbrev pub IsLeft : Launch → Complete → Type 0
-IsLeft launch complete = Leaves launch (events_of complete.schedule) (map (λ bytes. map Some bytes) complete.buffers.items) × IsMerged complete.schedule
+IsLeft launch complete = Leaves launch (events_of complete.schedule) complete.buffers.items × IsMerged complete.schedule
 
 -- How an order ends: with a complete schedule; or with a fault that is no conflict of kind order, and a schedule that
 -- leads to a state that shows it; or it is given up, and nothing is said (own).

@@ -1,9 +1,10 @@
 //! The first byte at which two lists of buffers differ.
 
-ghost use Rattle.std.specs.Prelude.{◌≡◌, ◌≢◌, ◌<◌, true, false, length, slice_get, IfNone, IfSome};
+ghost use Rattle.std.specs.Prelude.{◌≡◌, ◌≢◌, true, false, IfNone, IfSome};
+ghost use Rattle.clmodel.specs.Cells.{cells_of};
 ghost use Rattle.explore_runs.specs.Apart.{AreAlike, IsFirstApart, IsFirstByte};
 
-use clmodel::text::Bytes;
+use spaces::BufferMem;
 
 /// A byte of one of a launch's buffers.
 #[derive(Clone, Copy)]
@@ -14,20 +15,22 @@ pub struct Place {
     pub byte: usize,
 }
 
-/// Whether a row has the same at a byte of another one.
-fn is_alike(one: &[u8], other: &[u8], byte: usize) -> bool
-    requires { byte < length one.now }
-    ensures same { result ≡ true → slice_get one.now byte ≡ slice_get other.now byte }
-    ensures apart { result ≡ false → slice_get one.now byte ≢ slice_get other.now byte }
+/// Whether a row has the same at a byte as another one.
+fn is_alike(one: &BufferMem, other: &BufferMem, byte: usize) -> bool
+    ensures same { result ≡ true → cells_of one.now byte ≡ cells_of other.now byte }
+    ensures apart { result ≡ false → cells_of one.now byte ≢ cells_of other.now byte }
 {
-    if byte >= other.len() {
-        return false;
+    match one.cell(byte) {
+        Some(value) => match other.cell(byte) {
+            Some(there) => value == there,
+            None => false,
+        },
+        None => other.cell(byte).is_none(),
     }
-    one[byte] == other[byte]
 }
 
 /// The first byte of one row that isn't the other's, `None` where the other one has all its bytes.
-fn byte_apart(one: &[u8], other: &[u8]) -> Option<usize>
+fn byte_apart(one: &BufferMem, other: &BufferMem) -> Option<usize>
     ensures apart { IfSome result (IsFirstByte one.now other.now) }
     ensures alike { IfNone result (AreAlike one.now other.now) }
 {
@@ -39,12 +42,13 @@ fn byte_apart(one: &[u8], other: &[u8]) -> Option<usize>
     None
 }
 
-/// The first byte at which two lists of buffers differ, if they do: in the lowest buffer with one, there the lowest.
-pub fn first_apart(one: &[Bytes], other: &[Bytes]) -> Option<Place>
+/// The first byte at which two lists of buffers differ, if they do: in the lowest buffer with one, there the lowest. A
+/// byte may be unset in one alone.
+pub fn first_apart(one: &[BufferMem], other: &[BufferMem]) -> Option<Place>
     ensures { IfSome result (IsFirstApart one.now other.now) }
 {
     for buffer in 0..one.len().min(other.len()) {
-        match byte_apart(one[buffer].as_slice(), other[buffer].as_slice()) {
+        match byte_apart(&one[buffer], &other[buffer]) {
             Some(byte) => return Some(Place { buffer, byte }),
             None => {}
         }

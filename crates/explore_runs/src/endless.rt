@@ -2,10 +2,8 @@
 
 ghost use Rattle.std.specs.Prelude.{IfOk};
 ghost use Rattle.clmodel.specs.Launch.{Launch as TheLaunch};
-ghost use Rattle.clmodel.specs.Next.{launch_of};
 ghost use Rattle.item_step.specs.Launches.{setup_of};
-ghost use Rattle.launches.specs.Groups.{HasGroups};
-ghost use Rattle.spaces.specs.Buffers.{bytes_in};
+ghost use Rattle.launches.specs.Groups.{HasGroups, launch_in};
 ghost use Rattle.explore_runs.specs.Orders.{IsOrderEnd};
 
 use crate::ends::OrderEnd;
@@ -43,7 +41,7 @@ fn probed(
     until: u64,
 ) -> Result<OrderEnd, AllocError>
     requires { HasGroups (setup_of launch.now) }
-    ensures { IfOk result (IsOrderEnd (launch_of (setup_of launch.now) (bytes_in buffers.now))) }
+    ensures { IfOk result (IsOrderEnd (launch_in (setup_of launch.now) buffers.now)) }
 {
     let turns = order.play(alloc, launch, buffers, until, Way::InTurn)?;
     if !turns.is_stuck {
@@ -95,8 +93,8 @@ fn soonest(
     found: EndlessOrder,
 ) -> Result<OrderEnd, AllocError>
     requires groups { HasGroups (setup_of launch.now) }
-    requires ends { IsOrderEnd (launch_of (setup_of launch.now) (bytes_in buffers.now)) found.end }
-    ensures { IfOk result (IsOrderEnd (launch_of (setup_of launch.now) (bytes_in buffers.now))) }
+    requires ends { IsOrderEnd (launch_in (setup_of launch.now) buffers.now) found.end }
+    ensures { IfOk result (IsOrderEnd (launch_in (setup_of launch.now) buffers.now)) }
 {
     let mut endless = found;
     for _ in 0..HALVES {
@@ -121,8 +119,8 @@ pub(crate) fn settled(
     followed: Followed,
 ) -> Result<OrderEnd, AllocError>
     requires groups { HasGroups (setup_of launch.now) }
-    requires ends { IsOrderEnd (launch_of (setup_of launch.now) (bytes_in buffers.now)) followed.end }
-    ensures { IfOk result (IsOrderEnd (launch_of (setup_of launch.now) (bytes_in buffers.now))) }
+    requires ends { IsOrderEnd (launch_in (setup_of launch.now) buffers.now) followed.end }
+    ensures { IfOk result (IsOrderEnd (launch_in (setup_of launch.now) buffers.now)) }
 {
     if !is_open(&followed.end) {
         return Ok(followed.end);

@@ -1,12 +1,8 @@
 //! How an order ends.
 
-ghost use Rattle.std.specs.Prelude.{◌≡◌, Some, map, IfOk};
-
 use clmodel::fault::Fault;
 use clmodel::schedule::Schedule;
-use clmodel::text::Bytes;
-use spaces::Plain;
-use std::alloc::{AllocError, Global};
+use spaces::BufferMem;
 
 /// An order in which each item has ended.
 #[derive(Drop)]
@@ -14,7 +10,7 @@ pub struct Complete {
     /// Its events.
     pub schedule: Schedule,
     /// What it left in the launch's buffers, in the order of their numbers.
-    pub buffers: Vec<Bytes>,
+    pub buffers: Vec<BufferMem>,
 }
 
 /// How an order of a launch's events ends (own).
@@ -26,15 +22,4 @@ pub enum OrderEnd {
     Shown(Fault, Schedule),
     /// It had more turns than it was given.
     GivenUp,
-}
-
-/// The bytes that spaces hold, in their order. An error is out of memory.
-pub(crate) fn contents_of(alloc: Global, spaces: Vec<Plain>) -> Result<Vec<Bytes>, AllocError>
-    ensures { IfOk result (λ contents. map (λ bytes. map Some bytes) contents.items ≡ spaces.items) }
-{
-    let mut contents = Vec::new(alloc);
-    for space in spaces {
-        contents.push(Bytes::new(space.into_bytes()))?;
-    }
-    Ok(contents)
 }

@@ -2,10 +2,8 @@
 
 ghost use Rattle.std.specs.Prelude.{◌≡◌, Some, OnOk};
 ghost use Rattle.clmodel.specs.Launch.{Launch as TheLaunch};
-ghost use Rattle.clmodel.specs.Next.{launch_of};
 ghost use Rattle.item_step.specs.Launches.{setup_of};
-ghost use Rattle.launches.specs.Groups.{HasGroups};
-ghost use Rattle.spaces.specs.Buffers.{bytes_in};
+ghost use Rattle.launches.specs.Groups.{HasGroups, launch_in};
 ghost use Rattle.explore_runs.specs.Explored.{AreLeft, Explores, IsFound};
 ghost use Rattle.explore_runs.specs.Orders.{IsLeft, IsOrderEnd};
 
@@ -141,8 +139,8 @@ impl Explorer {
         buffers: &Buffers,
     ) -> Result<(), AllocError>
         requires groups { HasGroups (setup_of launch.now) }
-        requires explores { Explores (launch_of (setup_of launch.now) (bytes_in buffers.now)) self.old }
-        ensures { OnOk result (Explores (launch_of (setup_of launch.now) (bytes_in buffers.now)) self.new) }
+        requires explores { Explores (launch_in (setup_of launch.now) buffers.now) self.old }
+        ensures { OnOk result (Explores (launch_in (setup_of launch.now) buffers.now) self.new) }
     {
         let order = SeedOrder {
             seed: self.seed,

@@ -11,7 +11,7 @@ ghost use Rattle.ordered_runs.specs.Ordered.{is_order};
 ghost use Rattle.explore_runs.specs.Orders.{IsOrderEnd, Led, LedOrShown};
 
 use crate::chooser::Chooser;
-use crate::ends::{Complete, OrderEnd, contents_of};
+use crate::ends::{Complete, OrderEnd};
 use crate::roster::Roster;
 use crate::stops::{all_ended, divergence, is_atomic_next};
 use clmodel::action::Stop;
@@ -20,7 +20,7 @@ use clmodel::schedule::Event;
 use group_run::Runs;
 use launches::Runnable;
 use ordered_play::{Stepped, Watched, step_item};
-use spaces::Plain;
+use spaces::BufferMem;
 use std::alloc::{AllocError, Global};
 
 /// The item that the chooser names of those that can go on, if there is such a one.
@@ -205,10 +205,9 @@ fn end_of<D: Runnable>(
     if !all_ended(launch, &mut watched, items)? {
         return Ok(OrderEnd::GivenUp);
     }
-    let buffers = contents_of(alloc, watched.into_buffers())?;
     Ok(OrderEnd::Complete(Complete {
         schedule: runs.into_schedule(),
-        buffers,
+        buffers: watched.into_buffers(),
     }))
 }
 
@@ -220,7 +219,7 @@ pub fn play_order<D: Runnable, C: Chooser>(
     alloc: Global,
     launch: &D,
     groups: u32,
-    buffers: Vec<Plain>,
+    buffers: Vec<BufferMem>,
     chooser: &mut C,
     turns: u32,
 ) -> Result<OrderEnd, AllocError>

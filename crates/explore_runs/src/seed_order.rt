@@ -1,10 +1,8 @@
 //! One of the orders that belong to a seed.
 
 ghost use Rattle.std.specs.Prelude.{IfOk};
-ghost use Rattle.clmodel.specs.Next.{launch_of};
 ghost use Rattle.item_step.specs.Launches.{setup_of};
-ghost use Rattle.launches.specs.Groups.{HasGroups};
-ghost use Rattle.spaces.specs.Buffers.{bytes_in};
+ghost use Rattle.launches.specs.Groups.{HasGroups, launch_in};
 ghost use Rattle.explore_runs.specs.Orders.{IsOrderEnd};
 
 use crate::by_chance::ByChance;
@@ -53,7 +51,7 @@ fn order_of<C: Chooser>(
     chooser: &mut C,
 ) -> Result<OrderEnd, AllocError>
     requires { HasGroups (setup_of launch.now) }
-    ensures { IfOk result (IsOrderEnd (launch_of (setup_of launch.now) (bytes_in buffers.now))) }
+    ensures { IfOk result (IsOrderEnd (launch_in (setup_of launch.now) buffers.now)) }
 {
     setups_are_runnable();
     let loaded = LoadedLaunch::new(alloc, launch, buffers);
@@ -73,7 +71,7 @@ fn follow<C: Chooser + Drop>(
     way: Way,
 ) -> Result<Followed, AllocError>
     requires { HasGroups (setup_of launch.now) }
-    ensures { IfOk result (λ followed. IsOrderEnd (launch_of (setup_of launch.now) (bytes_in buffers.now)) followed.end) }
+    ensures { IfOk result (λ followed. IsOrderEnd (launch_in (setup_of launch.now) buffers.now) followed.end) }
 {
     let mut chooser = Until::new(first, until, way);
     let end = order_of(alloc, launch, buffers, &mut chooser)?;
@@ -97,7 +95,7 @@ impl SeedOrder {
         way: Way,
     ) -> Result<Followed, AllocError>
         requires { HasGroups (setup_of launch.now) }
-        ensures { IfOk result (λ followed. IsOrderEnd (launch_of (setup_of launch.now) (bytes_in buffers.now)) followed.end) }
+        ensures { IfOk result (λ followed. IsOrderEnd (launch_in (setup_of launch.now) buffers.now) followed.end) }
     {
         if self.number == 0 {
             return follow(alloc, launch, buffers, InTurn::new(), until, way);

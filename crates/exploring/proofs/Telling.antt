@@ -5,8 +5,8 @@ use Rattle.std.proofs.lemmas.List.Sums.{count_by_more_no, count_by_more_yes}
 use Rattle.std.specs.Prelude.{MatchBool}
 use Rattle.byte_io.specs.Sink.{Sink, Stopped, Wrote}
 use Rattle.byte_io.proofs.Puts.{stopped_then, wrote_none, wrote_then}
-use Rattle.clmodel.specs.Next.{launch_of}
-use Rattle.clmodel.specs.Setup.{Setup}
+use Rattle.clmodel.specs.Launch as model
+use Rattle.launches.specs.Groups.{launch_in}
 use Rattle.clmodel.specs.declared.setup.Range.{Range}
 use Rattle.device.specs.Machine.{IsLaunchRefusal, Machine, Step, opening}
 use Rattle.device.specs.Prepared.{IsPrepared}
@@ -20,8 +20,8 @@ use Rattle.simfile.specs.Faults.{NoScript}
 use Rattle.simfile.specs.Script.{IsScript}
 use Rattle.simfile.specs.declared.faults.RunFault.{RunFault}
 use Rattle.simfile.specs.declared.faults.RunFault.TheVariants as fault
-use Rattle.spaces.specs.Buffers.{bytes_in}
-use Rattle.spaces.specs.Tables.{Table}
+use Rattle.spaces.specs.declared.buffers.Buffers.{Buffers}
+use Rattle.device.proofs.Prepared.{prepared_on}
 use Rattle.exploring.specs.Commands.{CommandUntold, IsExplored, IsManner, TellsCommand, TellsEach, behind, first_spot, is_launch, launch_count, next, with_told}
 use Rattle.exploring.specs.Explored.{HasBegun, HasTold, IsExploredScript, IsMissing, IsPart, IsToldOf, Unexplored, Untold, is_among, is_past, least, no_end}
 use Rattle.exploring.specs.Findings.{AreFound}
@@ -179,11 +179,10 @@ unexplored options script commands old new (fault.CommandRefused ticket) is none
 
 -- a launch that isn't refused, and what its orders show on the buffers as they are
 pub explored_there :
-    (m : Machine) (kernel : List ℕ) (range : Range) (launch : Launch) (buffers : Table (List ℕ)) (findings : Findings) → IsPrepared m kernel range launch → buffers ≡ m.buffers
-    → AreFound (launch_of (launches.setup_of launch) (bytes_in buffers)) findings → IsExplored m kernel range (manner.Explored findings)
-explored_there m kernel range launch buffers findings prepared same found =
-    let F : Setup → Table (List ℕ) → Type 0 = λ s b. AreFound (launch_of s (bytes_in b)) findings in
-    (prepared.admitted, subst (λ s. F s m.buffers) prepared.setup (subst (λ b. F (launches.setup_of launch) b) same found))
+    (m : Machine) (kernel : List ℕ) (range : Range) (launch : Launch) (buffers : Buffers) (findings : Findings) → IsPrepared m kernel range launch → buffers.bytes ≡ m.buffers → buffers.flags ≡ m.flags
+    → AreFound (launch_in (launches.setup_of launch) buffers) findings → IsExplored m kernel range (manner.Explored findings)
+explored_there m kernel range launch buffers findings prepared same set found =
+    (prepared.admitted, subst (λ (l : model.Launch). AreFound l findings) (prepared_on m kernel range launch buffers prepared same set) found)
 
 -- a launch that is refused, and not for want of memory
 pub refused_there : (m : Machine) (kernel : List ℕ) (range : Range) (r : Refusal) → IsLaunchRefusal m kernel range r → (r ≡ refusal.OutOfMemory → ⊥) → IsExplored m kernel range manner.Quiet

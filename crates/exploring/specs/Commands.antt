@@ -2,9 +2,8 @@
 use Rattle.std.specs.Prelude.{◌≡◌, ◌+◌, ◌||◌, ℕ, Bool, true, false, Option, None, Some, List, [], ◌∷◌, ◌++◌, nat_eq, if◌then◌else◌}
 use Rattle.std.specs.List.{count_by}
 use Rattle.byte_io.specs.Sink.{Sink, Stopped}
-use Rattle.clmodel.specs.Next.{launch_of}
 use Rattle.clmodel.specs.declared.setup.Range.{Range}
-use Rattle.device.specs.Machine.{Machine, Step, bytes_of, first, kernel_of, launch_row, setup_of}
+use Rattle.device.specs.Machine.{Machine, Step, first, kernel_of, launch_at, launch_row, setup_of}
 use Rattle.host_commands.specs.declared.command.Command.{Command}
 use Rattle.host_commands.specs.declared.command.Command.TheVariants as command
 use Rattle.host_commands.specs.declared.command.Refusal.{Refusal}
@@ -21,7 +20,7 @@ use Rattle.exploring.specs.Lines.{has_shown, told_text}
 
 -- whether a command is a launch
 abbrev pub is_launch : Command → Bool
-is_launch (command.Buffer name size) = false
+is_launch (command.Buffer name size unset) = false
 is_launch (command.Write buffer at bytes) = false
 is_launch (command.Fill buffer at count pattern) = false
 is_launch (command.Copy source at target to count) = false
@@ -54,7 +53,7 @@ is_wanted (Some wanted) number = nat_eq wanted number
 abbrev pub IsExplored : Machine → List ℕ → Range → Manner → Type 0
 IsExplored m kernel range manner.Quiet = (refusal : Refusal) × (first (launch_row m kernel range) ≡ Some refusal)
 IsExplored m kernel range manner.Unordered = ⊥
-IsExplored m kernel range (manner.Explored findings) = (first (launch_row m kernel range) ≡ None) × AreFound (launch_of (setup_of m (kernel_of m kernel) range) (bytes_of m)) findings
+IsExplored m kernel range (manner.Explored findings) = (first (launch_row m kernel range) ≡ None) × AreFound (launch_at m (setup_of m (kernel_of m kernel) range)) findings
 
 -- what is told of a launch beside its reply, by whether it is wanted and has `orders`
 abbrev pub IsMannerOf : Machine → List ℕ → Range → (wanted orders : Bool) → Manner → Type 0
@@ -64,7 +63,7 @@ IsMannerOf m kernel range false orders how = how ≡ manner.Quiet
 
 -- what is told of a command beside its reply, on a machine
 abbrev pub IsManner : Option ℕ → ℕ → Machine → Command → Manner → Type 0
-IsManner wanted number m (command.Buffer name size) how = how ≡ manner.Quiet
+IsManner wanted number m (command.Buffer name size unset) how = how ≡ manner.Quiet
 IsManner wanted number m (command.Write buffer at bytes) how = how ≡ manner.Quiet
 IsManner wanted number m (command.Fill buffer at count pattern) how = how ≡ manner.Quiet
 IsManner wanted number m (command.Copy source at target to count) how = how ≡ manner.Quiet

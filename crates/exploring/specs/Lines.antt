@@ -1,6 +1,7 @@
 -- The lines that are written of orders and of commands (own).
-use Rattle.std.specs.Prelude.{◌==◌, ◌||◌, ℕ, Bool, true, false, not, Option, None, Some, is_some, List, [], ◌∷◌, ◌++◌, codes, decimal, slice_get, slice_index_or, if◌then◌else◌}
+use Rattle.std.specs.Prelude.{◌==◌, ◌||◌, ℕ, Bool, true, false, not, Option, None, Some, is_some, List, [], ◌∷◌, ◌++◌, codes, decimal, slice_index_or, if◌then◌else◌}
 use Rattle.byte_io.specs.Pieces.{joined}
+use Rattle.clmodel.specs.Cells.{cells_of}
 use Rattle.clmodel.specs.declared.fault.Fault.{Fault}
 use Rattle.clmodel.specs.declared.fault.Fault.TheVariants as fault
 use Rattle.clmodel.specs.declared.schedule.EventRun.{EventRun}
@@ -47,14 +48,14 @@ abbrev pub shown_text : Spot → Option ShownFault → List ℕ
 shown_text spot None = []
 shown_text spot (Some shown) = launch_words spot.number ++ fault_words spot.ticket shown
 
--- a byte, or that there is none
+-- a byte, or that it is unset (C99 6.7.8)
 abbrev pub byte_text : Option ℕ → List ℕ
-byte_text None = codes "none"
+byte_text None = codes "unset"
 byte_text (Some byte) = decimal byte
 
 -- the byte of a place
-abbrev pub byte_at : List (List ℕ) → Place → Option ℕ
-byte_at buffers place = slice_get (slice_index_or buffers place.buffer []) place.byte
+abbrev pub byte_at : List (List (Option ℕ)) → Place → Option ℕ
+byte_at buffers place = cells_of (slice_index_or buffers place.buffer []) place.byte
 
 abbrev pub schedule_line : List EventRun → List ℕ
 schedule_line runs = codes "schedule " ++ (schedule_text runs ++ codes "\n")

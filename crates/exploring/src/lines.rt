@@ -14,11 +14,11 @@ use byte_io::pieces::{Piece, write_number, write_pieces};
 use byte_io::{Write, WriteFailed};
 use clmodel::fault::Fault;
 use clmodel::schedule::Schedule;
-use clmodel::text::Bytes;
 use device::Reply;
 use explore_runs::Place;
 use fault_lines::write_schedule;
 use simfile::replies::write_reply;
+use spaces::BufferMem;
 
 /// Writes what stands in front of what is told of the launch of a number.
 fn write_launch<W: Write>(number: usize, writer: &mut W) -> Result<(), WriteFailed>
@@ -136,23 +136,23 @@ fn write_shown<W: Write>(
     write_fault(spot.ticket, shown, writer)
 }
 
-/// The byte of a place, if there is one.
-fn byte_at(buffers: &[Bytes], place: Place) -> Option<u8>
+/// The byte of a place, if there is one that is set.
+fn byte_at(buffers: &[BufferMem], place: Place) -> Option<u8>
     ensures { result ≡ byte_at buffers.now place }
 {
     match buffers.get(place.buffer) {
-        Some(buffer) => buffer.as_slice().get(place.byte).copied(),
+        Some(buffer) => buffer.cell(place.byte),
         None => None,
     }
 }
 
-/// Writes a byte, or that there is none.
+/// Writes a byte, or that it is unset.
 fn write_byte<W: Write>(byte: Option<u8>, writer: &mut W) -> Result<(), WriteFailed>
     ensures { Puts (W.sink writer.old) result (W.sink writer.new) (byte_text byte) }
 {
     match byte {
         Some(byte) => write_number(u64::from(byte), writer),
-        None => writer.write(b"none"),
+        None => writer.write(b"unset"),
     }
 }
 

@@ -4,12 +4,11 @@
 ghost use Rattle.std.specs.Prelude.{◌≡◌, ℕ, List, [], Some, IfOk, slice_index_or};
 ghost use Rattle.clmodel.specs.Launch.{Launch as TheLaunch};
 ghost use Rattle.clmodel.specs.Law.{Reaches};
-ghost use Rattle.clmodel.specs.Next.{launch_of};
 ghost use Rattle.clmodel.specs.Outcome.{events_of};
 ghost use Rattle.explore_runs.specs.Explored.{AreLeft, Explores, IsFound};
 ghost use Rattle.item_step.specs.Launches.{setup_of};
-ghost use Rattle.launches.specs.Groups.{HasGroups};
-ghost use Rattle.spaces.specs.Buffers.{bytes_in};
+ghost use Rattle.launches.specs.Groups.{HasGroups, launch_in};
+ghost use Rattle.spaces.specs.declared.buffers.Buffers.{Buffers as BuffersOf};
 ghost use Rattle.exploring.specs.Findings.{AreFound, IsApart, IsShown};
 
 use crate::facts::{Clock, ExploreOptions};
@@ -70,7 +69,7 @@ fn play_orders<C: Clock>(
     clock: &mut C,
 ) -> Result<PlayedOrders, AllocError>
     requires { HasGroups (setup_of launch.now) }
-    ensures { IfOk result (λ played. Explores (launch_of (setup_of launch.now) (bytes_in buffers.now)) played.explorer) }
+    ensures { IfOk result (λ played. Explores (launch_in (setup_of launch.now) buffers.now) played.explorer) }
 {
     let mut explorer = Explorer::new(options.seed);
     let mut numbers = Numbers {
@@ -145,8 +144,8 @@ fn short_schedule(
     found: &Found,
 ) -> Result<Schedule, AllocError>
     requires groups { HasGroups (setup_of launch.now) }
-    requires leads { Reaches (launch_of (setup_of launch.now) (bytes_in buffers.now)) (events_of found.now.schedule) found.now.fault }
-    ensures { IfOk result (λ short. Reaches (launch_of (setup_of launch.now) (bytes_in buffers.now)) (events_of short) found.now.fault) }
+    requires leads { Reaches (launch_in (setup_of launch.now) buffers.now) (events_of found.now.schedule) found.now.fault }
+    ensures { IfOk result (λ short. Reaches (launch_in (setup_of launch.now) buffers.now) (events_of short) found.now.fault) }
 {
     let named = named_by(alloc, launch, buffers, found)?;
     let (fault, given) = (&found.fault, &found.schedule);
@@ -174,8 +173,8 @@ fn shown_of(
     found: Option<Found>,
 ) -> Result<Option<ShownFault>, AllocError>
     requires groups { HasGroups (setup_of launch.now) }
-    requires found { IsFound (launch_of (setup_of launch.now) (bytes_in buffers.now)) found }
-    ensures { IfOk result (IsShown (launch_of (setup_of launch.now) (bytes_in buffers.now))) }
+    requires found { IsFound (launch_in (setup_of launch.now) buffers.now) found }
+    ensures { IfOk result (IsShown (launch_in (setup_of launch.now) buffers.now)) }
 {
     let Some(found) = found else {
         return Ok(None);
@@ -208,7 +207,7 @@ fn apart_of(
     left: Left,
     numbers: Numbers,
 ) -> Result<Option<ApartOrders>, AllocError>
-    ensures { IfOk result (λ apart. (bytes : List ℕ → List ℕ) → AreLeft (launch_of (setup_of launch.now) bytes) left → IsApart (launch_of (setup_of launch.now) bytes) apart) }
+    ensures { IfOk result (λ apart. (buffers : BuffersOf) → AreLeft (launch_in (setup_of launch.now) buffers) left → IsApart (launch_in (setup_of launch.now) buffers) apart) }
 {
     match left {
         Left::Apart(one, other, place) => Ok(Some(ApartOrders {
@@ -232,7 +231,7 @@ pub(crate) fn findings_of<C: Clock>(
     clock: &mut C,
 ) -> Result<Findings, AllocError>
     requires { HasGroups (setup_of launch.now) }
-    ensures { IfOk result (AreFound (launch_of (setup_of launch.now) (bytes_in buffers.now))) }
+    ensures { IfOk result (AreFound (launch_in (setup_of launch.now) buffers.now)) }
 {
     let PlayedOrders { explorer, numbers } = play_orders(alloc, launch, buffers, options, clock)?;
     let Explorer {

@@ -2,7 +2,7 @@
 #![tactic(auto)]
 
 ghost use Rattle.item_step.specs.Launches.{setup_of};
-ghost use Rattle.launches.specs.Groups.{HasGroups};
+ghost use Rattle.launches.specs.Groups.{HasGroups, launch_in};
 
 use clmodel::fault::Fault;
 use clmodel::schedule::Schedule;
@@ -24,11 +24,9 @@ pub(crate) struct Replayed<'a> {
 
 impl Judge for Replayed<'_> {
     ghost use Rattle.clmodel.specs.Law.{Reaches};
-    ghost use Rattle.clmodel.specs.Next.{launch_of};
     ghost use Rattle.item_step.specs.Launches.{setup_of};
-    ghost use Rattle.spaces.specs.Buffers.{bytes_in};
 
-    ghost leads = { λ judge events. Reaches (launch_of (setup_of judge.launch.now) (bytes_in judge.buffers.now)) events judge.fault.now };
+    ghost leads = { λ judge events. Reaches (launch_in (setup_of judge.launch.now) judge.buffers.now) events judge.fault.now };
 
     ghost judged = { λ _. 0 };
 

@@ -5,18 +5,16 @@ ghost use Rattle.std.specs.Prelude.{◌≡◌, ◌≤◌, ℕ, true, map, count_
 ghost use Rattle.std.specs.Bool.{Decides};
 ghost use Rattle.clmodel.specs.Launch.{Launch as TheLaunch};
 ghost use Rattle.clmodel.specs.Law.{Reaches, Shows};
-ghost use Rattle.clmodel.specs.Next.{launch_of};
 ghost use Rattle.clmodel.specs.Outcome.{events_of};
 ghost use Rattle.clmodel.specs.Run.{State};
 ghost use Rattle.clmodel.specs.Setup.{group_items};
 ghost use Rattle.clmodel.specs.declared.fault.Fault.{Fault};
 ghost use Rattle.item_step.specs.Launches.{setup_of, started};
 ghost use Rattle.item_step.specs.Running.{Running};
-ghost use Rattle.launches.specs.Groups.{HasGroups};
+ghost use Rattle.launches.specs.Groups.{HasGroups, launch_in};
 ghost use Rattle.fault_play.specs.Marks.{ActsFrom, Divides};
 ghost use Rattle.replay.specs.Spots.{Finds, IsPairOf, is_conflict};
 ghost use Rattle.replay.specs.States.{IsAt};
-ghost use Rattle.spaces.specs.Buffers.{bytes_in};
 ghost use Rattle.fault_play.specs.PlayedOut.{IsEventOf, IsLastEvent, IsPlayedOut, MadeAccess, acts_at, is_access, touch_of};
 
 use crate::{Mark, Pair, Stand, dividend_of, mark_schedule, stand_of};
@@ -141,9 +139,9 @@ pub fn play(
     most: usize,
 ) -> Result<Option<Played>, AllocError>
     requires { HasGroups (setup_of launch.now) }
-    ensures none { IfOk result (λ found. IfNone found ((other : Fault) → Reaches (launch_of (setup_of launch.now) (bytes_in buffers.now)) (events_of schedule.now) other → ⊥)) }
+    ensures none { IfOk result (λ found. IfNone found ((other : Fault) → Reaches (launch_in (setup_of launch.now) buffers.now) (events_of schedule.now) other → ⊥)) }
     ensures played { IfOk result (λ found. IfSome found
-        (IsPlayedOut (launch_of (setup_of launch.now) (bytes_in buffers.now)) (started launch.now) (group_items (setup_of launch.now).range) (events_of schedule.now) fault.now items.0 items.1 most)) }
+        (IsPlayedOut (launch_in (setup_of launch.now) buffers.now) (started launch.now) (group_items (setup_of launch.now).range) (events_of schedule.now) fault.now items.0 items.1 most)) }
 {
     setups_are_runnable();
     let loaded = LoadedLaunch::new(alloc, launch, buffers);

@@ -3,11 +3,9 @@
 
 ghost use Rattle.std.specs.Prelude.{◌≤◌, IfOk, length};
 ghost use Rattle.clmodel.specs.Law.{Reaches};
-ghost use Rattle.clmodel.specs.Next.{launch_of};
 ghost use Rattle.clmodel.specs.Outcome.{events_of};
 ghost use Rattle.item_step.specs.Launches.{setup_of};
-ghost use Rattle.launches.specs.Groups.{HasGroups};
-ghost use Rattle.spaces.specs.Buffers.{bytes_in};
+ghost use Rattle.launches.specs.Groups.{HasGroups, launch_in};
 
 use crate::judging::Replayed;
 use clmodel::fault::Fault;
@@ -28,8 +26,8 @@ pub fn shorter(
     named: &[Named],
 ) -> Result<Shortened, AllocError>
     requires groups { HasGroups (setup_of launch.now) }
-    requires leads { Reaches (launch_of (setup_of launch.now) (bytes_in buffers.now)) (events_of given.now) fault.now }
-    ensures leads { IfOk result (λ short. Reaches (launch_of (setup_of launch.now) (bytes_in buffers.now)) (events_of short.schedule) fault.now) }
+    requires leads { Reaches (launch_in (setup_of launch.now) buffers.now) (events_of given.now) fault.now }
+    ensures leads { IfOk result (λ short. Reaches (launch_in (setup_of launch.now) buffers.now) (events_of short.schedule) fault.now) }
     ensures not_longer { IfOk result (λ short. length (events_of short.schedule) ≤ length (events_of given.now)) }
     ensures few { IfOk result (λ short. short.judged ≤ 200) }
 {

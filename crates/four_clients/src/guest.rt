@@ -43,6 +43,7 @@ fn commands_of(alloc: Global, number: u8) -> Result<Vec<Command>, AllocError> {
     commands.push(Command::Buffer {
         name: Name::copy_of(alloc, &text)?,
         size: 4,
+        unset: false,
     })?;
     commands.push(Command::Write {
         buffer: Name::copy_of(alloc, &text)?,

@@ -47,7 +47,7 @@ fn run<R: Print + AllocGlobal + Threads + Wait + Sync>(rt: &R) -> io::Result<()>
         }
     }
     let device = close(rt, queue, Vec::new(alloc), driver);
-    println!(rt; "{} buffers", device.buffers().len())
+    println!(rt; "{} buffers", device.buffers().bytes.len())
 }
 
 /// Serves the clients and prints their replies. An error comes where memory is refused, or standard output fails.

@@ -4,7 +4,7 @@ use Rattle.std.specs.Prelude.{slice_get, if◌then◌else◌}
 use Rattle.std.specs.Option.{option_map, unwrap_or}
 use Rattle.std.proofs.lemmas.Bool.{and_parts, and_from, true≢false}
 use Rattle.std.proofs.lemmas.Option.{slice_get-get_or, slice_get_within}
-use Rattle.clmodel.specs.Cells.{Cells, cells_of, covers, byte_count, byte_of, number}
+use Rattle.clmodel.specs.Cells.{Cells, cells_of, covers, byte_count, byte_of, number, is_unset, is_flagged, masked}
 use Rattle.clmodel.specs.Launch.{Launch, same_region}
 use Rattle.clmodel.specs.Law.{Keeps, Logged}
 use Rattle.clmodel.specs.Run.{Memory, initial, cells_from, contents}
@@ -27,12 +27,13 @@ use Rattle.group_run.specs.Logs.{accesses_of}
 use Rattle.group_run.proofs.Logs.{accesses_cons}
 use Rattle.shadow.specs.Lasting.{StandsFor}
 use Rattle.access_list.specs.declared.log.Entry.{Entry}
-use Rattle.group_join.specs.Changes.{buffer_at, number_or_0, joined_value, value_of, changed_byte, changes_of, AreChanged, cells_at, filled_at}
-use Rattle.group_join.specs.Memory.{HoldsBytes}
+use Rattle.group_join.specs.Changes.{buffer_at, number_or_0, joined_value, value_of, changed_byte, changes_of, no_flag, AreChanged, cells_at, filled_at}
+use Rattle.group_join.specs.Ends.{all_cells}
+use Rattle.group_join.specs.Memory.{held_byte, HoldsBytes, AreFlags}
 use Rattle.group_join.proofs.Listed.{among, wrote_listed}
 use Rattle.group_join.proofs.Numbers.{number_none, one_byte}
 use Rattle.group_join.proofs.Changing.{wrote_by, entries_put, entries_kept}
-use Rattle.group_join.proofs.Filled.{own_set}
+use Rattle.group_join.proofs.Filled.{there_set, first_set, own_wrote}
 
 -- ---- what is kept of a log
 
@@ -76,34 +77,41 @@ logged_entry (y ∷ es) x h =
 
 -- ---- buffers and a memory
 
-pub contents_start : (l : Launch) (rows : List (List ℕ)) → rows ≡ l.buffers → HoldsBytes l (initial l) rows
-contents_start l rows e =
-    subst (HoldsBytes l (initial l)) (sym e) (record { many = refl; sized = λ n. refl; bytes = λ n b h. refl })
+pub contents_start : (l : Launch) (flags : List (List ℕ)) → AreFlags l flags → (rows : List (List ℕ)) → rows ≡ l.buffers → HoldsBytes l (initial l) rows flags
+contents_start l flags f rows e =
+    subst (λ z. HoldsBytes l (initial l) z flags) (sym e)
+    (record { many = refl; flagged = f.many; sized = λ n. refl; bytes = λ n b h. ap (λ z. if z then None else slice_get (buffer_at l.buffers n) b) (f.unset n b h) })
 
-cells_row : (cells : Cells) (first : ℕ) (c : List ℕ) (count : ℕ) → length c ≡ count → ((i : ℕ) → i < count → slice_get c i ≡ cells (first + i)) → cells_from cells first count ≡ map Some c
-cells_row cells first [] zero e h = refl
-cells_row cells first [] (suc count) e h = absurd (omega (arith, e))
-cells_row cells first (x ∷ c) zero e h = absurd (omega (arith, e))
-cells_row cells first (x ∷ c) (suc count) e h =
-    ap₂ (λ (y : Option ℕ) ys. y ∷ ys) (let z : first ≡ first + 0 = omega arith in ap cells z ∙ sym (h zero (omega arith)))
-    (cells_row cells (suc first) c count (omega (arith, e)) (λ i b. let z : first + suc i ≡ suc first + i = omega arith in h (suc i) (omega (arith, b)) ∙ ap cells z))
+cells_row : (cells : Cells) (first : ℕ) (unset : ℕ → Bool) (j : ℕ) (c : List ℕ) (count : ℕ) → length c ≡ count
+    → ((i : ℕ) → i < count → cells (first + i) ≡ (if unset (j + i) then None else slice_get c i)) → cells_from cells first count ≡ masked unset j (map Some c)
+cells_row cells first unset j [] zero e h = refl
+cells_row cells first unset j [] (suc count) e h = absurd (omega (arith, e))
+cells_row cells first unset j (x ∷ c) zero e h = absurd (omega (arith, e))
+cells_row cells first unset j (x ∷ c) (suc count) e h =
+    ap₂ (λ (y : Option ℕ) ys. y ∷ ys)
+    (let z : first ≡ first + 0 = omega arith in let y : j + 0 ≡ j = omega arith in ap cells z ∙ h zero (omega arith) ∙ ap (λ k. if unset k then None else Some x) y)
+    (cells_row cells (suc first) unset (suc j) c count (omega (arith, e))
+    (λ i b. let z : suc first + i ≡ first + suc i = omega arith in
+    let y : j + suc i ≡ suc j + i = omega arith in ap cells z ∙ h (suc i) (omega (arith, b)) ∙ ap (λ k. if unset k then None else slice_get c i) y))
 
 ends_from :
-    (m : Memory) (k : ℕ) (bs cs : List (List ℕ)) → length cs ≡ length bs → ((n : ℕ) → length (buffer_at cs n) ≡ length (buffer_at bs n))
-    → ((n b : ℕ) → b < length (buffer_at bs n) → slice_get (buffer_at cs n) b ≡ m (region.Buffer (k + n)) b) → contents m k bs ≡ map (λ bytes. map Some bytes) cs
-ends_from m k [] [] e s h = refl
-ends_from m k [] (c ∷ cs) e s h = absurd (omega (arith, e))
-ends_from m k (b ∷ bs) [] e s h = absurd (omega (arith, e))
-ends_from m k (b ∷ bs) (c ∷ cs) e s h =
+    (m : Memory) (k : ℕ) (bs cs fs : List (List ℕ)) → length cs ≡ length bs → length fs ≡ length bs → ((n : ℕ) → length (buffer_at cs n) ≡ length (buffer_at bs n))
+    → ((n b : ℕ) → b < length (buffer_at bs n) → m (region.Buffer (k + n)) b ≡ held_byte (buffer_at cs n) (buffer_at fs n) b) → contents m k bs ≡ all_cells cs fs
+ends_from m k [] [] fs e d s h = refl
+ends_from m k [] (c ∷ cs) fs e d s h = absurd (omega (arith, e))
+ends_from m k (b ∷ bs) [] fs e d s h = absurd (omega (arith, e))
+ends_from m k (b ∷ bs) (c ∷ cs) [] e d s h = absurd (omega (arith, d))
+ends_from m k (b ∷ bs) (c ∷ cs) (f ∷ fs) e d s h =
     ap₂ (λ (y : List (Option ℕ)) ys. y ∷ ys)
-    (cells_row (m (region.Buffer k)) 0 c (length b) (s zero)
-    (λ i w. let z : k + 0 ≡ k = omega arith in let y : i ≡ 0 + i = omega arith in h zero i w ∙ ap (λ j. m (region.Buffer j) i) z ∙ ap (m (region.Buffer k)) y))
-    (ends_from m (suc k) bs cs (omega (arith, e)) (λ n. s (suc n)) (λ n i w. let z : k + suc n ≡ suc k + n = omega arith in h (suc n) i w ∙ ap (λ j. m (region.Buffer j) i) z))
+    (cells_row (m (region.Buffer k)) 0 (is_flagged f) 0 c (length b) (s zero)
+    (λ i w. let z : k ≡ k + 0 = omega arith in let y : 0 + i ≡ i = omega arith in
+    ap (m (region.Buffer k)) y ∙ ap (λ j. m (region.Buffer j) i) z ∙ h zero i w ∙ ap (λ j. if is_flagged f j then None else slice_get c i) (sym y)))
+    (ends_from m (suc k) bs cs fs (omega (arith, e)) (omega (arith, d)) (λ n. s (suc n)) (λ n i w. let z : suc k + n ≡ k + suc n = omega arith in ap (λ j. m (region.Buffer j) i) z ∙ h (suc n) i w))
 
 -- what a state leaves in the buffers is what they hold
-pub contents_end : (l : Launch) (m : Memory) (cs : List (List ℕ)) → HoldsBytes l m cs → contents m 0 l.buffers ≡ map (λ bytes. map Some bytes) cs
-contents_end l m cs h =
-    ends_from m 0 l.buffers cs h.many h.sized (λ n b w. let z : n ≡ 0 + n = omega arith in h.bytes n b w ∙ ap (λ j. m (region.Buffer j) b) z)
+pub contents_end : (l : Launch) (m : Memory) (cs fs : List (List ℕ)) → HoldsBytes l m cs fs → contents m 0 l.buffers ≡ all_cells cs fs
+contents_end l m cs fs h =
+    ends_from m 0 l.buffers cs fs h.many h.flagged h.sized (λ n b w. let z : 0 + n ≡ n = omega arith in ap (λ j. m (region.Buffer j) b) z ∙ h.bytes n b w)
 
 cells_from_at : (cells : Cells) (first count i : ℕ) → i < count → cells_of (cells_from cells first count) i ≡ cells (first + i)
 cells_from_at cells first zero i h = absurd (omega (arith, h))
@@ -147,14 +155,14 @@ number_as : (c d : Cells) (first count x : ℕ) → ((byte : ℕ) → covers fir
 number_as c d first count x h e = ap (λ o. unwrap_or o 0) (number_frame c d first count h ∙ e)
 
 -- what code knows of a further group of which nothing crosses
-pub record IsClear (l : Launch) (g : ℕ) (lower : Joined) (part : Part) (old : List (List ℕ)) (entries : List Entry) (kept : List Access) (first : List (List ℕ)) (spaces : List (List (Option ℕ))) : Type 0 where
+pub record IsClear (l : Launch) (g : ℕ) (lower : Joined) (part : Part) (old flags : List (List ℕ)) (entries : List Entry) (kept : List Access) (first : List (List ℕ)) (spaces : List (List (Option ℕ))) : Type 0 where
   pub law : BytesAreJoined
   pub grouped : IsGrouped l
   pub joined : IsJoined l g lower
   pub there : HasGroup l g
   pub runs : IsPart l g part
   pub none : crossing l lower.log part.end.log ≡ None
-  pub holds : HoldsBytes l lower.memory old
+  pub holds : HoldsBytes l lower.memory old flags
   pub logged : Keeps part.end.log (accesses_of entries)
   pub keeps : Keeps lower.log kept
   pub opening : first ≡ l.buffers
@@ -170,20 +178,31 @@ put_of first old kept spaces = value_of first old (λ n b. wrote kept (region.Bu
 
 -- the number of a word that is in range, in each of the three
 word_first : (l : Launch) (first : List (List ℕ)) (n word s : ℕ) → first ≡ l.buffers → number (initial l (region.Buffer n)) word 4 ≡ Some s → number_or_0 (filled_at first n) word 4 ≡ s
-word_first l first n word s e h = number_as (filled_at first n) (initial l (region.Buffer n)) word 4 s (λ i c. cells_some (buffer_at first n) i ∙ ap (λ (z : List (List ℕ)). slice_get (buffer_at z n) i) e) h
+word_first l first n word s e h =
+    number_as (filled_at first n) (initial l (region.Buffer n)) word 4 s
+    (λ i c. let v = number_each (initial l (region.Buffer n)) word 4 s i h c in
+    cells_some (buffer_at first n) i ∙ ap (λ (z : List (List ℕ)). slice_get (buffer_at z n) i) e ∙ first_set l n i v.0 v.1 ∙ sym v.1)
+    h
 
 -- a byte of a word that has a first number is in range
 in_word : (l : Launch) (n word s i : ℕ) → number (initial l (region.Buffer n)) word 4 ≡ Some s → covers word 4 i ≡ true → i < length (buffer_at l.buffers n)
-in_word l n word s i h c = let v = number_each (initial l (region.Buffer n)) word 4 s i h c in slice_get_within (buffer_at l.buffers n) i v.0 v.1
+in_word l n word s i h c =
+    let v = number_each (initial l (region.Buffer n)) word 4 s i h c in slice_get_within (buffer_at l.buffers n) i v.0 (first_set l n i v.0 v.1)
 
-word_lower : (l : Launch) (m : Memory) (old : List (List ℕ)) (n word s a : ℕ) → HoldsBytes l m old → number (initial l (region.Buffer n)) word 4 ≡ Some s → number (m (region.Buffer n)) word 4 ≡ Some a
+word_lower : (l : Launch) (m : Memory) (old flags : List (List ℕ)) (n word s a : ℕ) → HoldsBytes l m old flags → number (initial l (region.Buffer n)) word 4 ≡ Some s → number (m (region.Buffer n)) word 4 ≡ Some a
     → number_or_0 (filled_at old n) word 4 ≡ a
-word_lower l m old n word s a holds h k =
-    number_as (filled_at old n) (m (region.Buffer n)) word 4 a (λ i c. cells_some (buffer_at old n) i ∙ holds.bytes n i (in_word l n word s i h c)) k
+word_lower l m old flags n word s a holds h k =
+    number_as (filled_at old n) (m (region.Buffer n)) word 4 a
+    (λ i c. let v = number_each (m (region.Buffer n)) word 4 a i k c in
+    cells_some (buffer_at old n) i
+    ∙ there_set (is_flagged (buffer_at flags n) i) (slice_get (buffer_at old n) i) v.0 (sym (holds.bytes n i (in_word l n word s i h c)) ∙ v.1)
+    ∙ sym v.1)
+    k
 
 word_own : (l : Launch) (m : Memory) (spaces : List (List (Option ℕ))) (n word s b : ℕ) → contents m 0 l.buffers ≡ spaces → number (initial l (region.Buffer n)) word 4 ≡ Some s
     → number (m (region.Buffer n)) word 4 ≡ Some b → number_or_0 (cells_at spaces n) word 4 ≡ b
-word_own l m spaces n word s b leaves h k = number_as (cells_at spaces n) (m (region.Buffer n)) word 4 b (λ i c. own_cells l m spaces leaves n i (in_word l n word s i h c)) k
+word_own l m spaces n word s b leaves h k =
+    number_as (cells_at spaces n) (m (region.Buffer n)) word 4 b (λ i c. own_cells l m spaces leaves n i (in_word l n word s i h c)) k
 
 -- where no lower group wrote a byte, the group's own is put, by each kind
 pub own_put : (k : AccessKind) (first lower own : Cells) (byte : ℕ) → joined_value k false first lower own byte ≡ number_or_0 own byte 1
@@ -194,10 +213,10 @@ own_put kind.Fetch first lower own byte = refl
 
 -- a byte that an entry wrote
 put_joined :
-    (l : Launch) (g : ℕ) (lower : Joined) (part : Part) (old : List (List ℕ)) (entries : List Entry) (kept : List Access) (first : List (List ℕ)) (spaces : List (List (Option ℕ)))
-    → IsClear l g lower part old entries kept first spaces → (x : Access) (n byte : ℕ) → Logged part.end.log x → wrote_by n byte x ≡ true → byte < length (buffer_at l.buffers n)
+    (l : Launch) (g : ℕ) (lower : Joined) (part : Part) (old flags : List (List ℕ)) (entries : List Entry) (kept : List Access) (first : List (List ℕ)) (spaces : List (List (Option ℕ)))
+    → IsClear l g lower part old flags entries kept first spaces → (x : Access) (n byte : ℕ) → Logged part.end.log x → wrote_by n byte x ≡ true → byte < length (buffer_at l.buffers n)
     → joined_of l lower part (region.Buffer n) byte ≡ Some (put_of first old kept spaces n x byte)
-put_joined l g lower part old entries kept first spaces c x n byte logged w inside = go (wrote lower.log (region.Buffer n) byte) refl
+put_joined l g lower part old flags entries kept first spaces c x n byte logged w inside = go (wrote lower.log (region.Buffer n) byte) refl
   where
     parts : (writes x.kind ≡ true) × (at_byte (region.Buffer n) byte x ≡ true)
     parts = and_parts (writes x.kind) (at_byte (region.Buffer n) byte x) w
@@ -217,7 +236,7 @@ put_joined l g lower part old entries kept first spaces c x n byte logged w insi
     -- the group's own byte is put
     own_byte : IsOwnByte l lower part x byte → put ≡ number_or_0 (cells_at spaces n) byte 1 → joined_of l lower part (region.Buffer n) byte ≡ Some put
     own_byte own told =
-        let v = own_set l g part c.runs n byte inside in
+        let v = own_wrote l g part c.runs (region.Buffer n) byte (wrote_from part.end.log (region.Buffer n) byte x logged parts.0 parts.1) in
         let there : cells_at spaces n byte ≡ Some v.0 = own_cells l part.end.memory spaces c.leaves n byte inside ∙ v.1 in
         ap (λ r. joined_of l lower part r byte) here
         ∙ own
@@ -238,7 +257,7 @@ put_joined l g lower part old entries kept first spaces c x n byte logged w insi
         (sym
         (ap₂ (λ k t. joined_value k t (filled_at first n) (filled_at old n) (cells_at spaces n) byte) q.4 (same ∙ e)
         ∙ ap (λ z. byte_of (byte % 4) (joined_number q.0 z (number_or_0 (filled_at old n) word 4) (number_or_0 (cells_at spaces n) word 4))) (word_first l first n word q.1 c.opening s)
-        ∙ ap₂ (λ y z. byte_of (byte % 4) (joined_number q.0 q.1 y z)) (word_lower l lower.memory old n word q.1 q.2 c.holds s a) (word_own l part.end.memory spaces n word q.1 q.3 c.leaves s b)))
+        ∙ ap₂ (λ y z. byte_of (byte % 4) (joined_number q.0 q.1 y z)) (word_lower l lower.memory old flags n word q.1 q.2 c.holds s a) (word_own l part.end.memory spaces n word q.1 q.3 c.leaves s b)))
 
     go : (b : Bool) → wrote lower.log (region.Buffer n) byte ≡ b → joined_of l lower part (region.Buffer n) byte ≡ Some put
     go false e =
@@ -251,11 +270,11 @@ put_joined l g lower part old entries kept first spaces c x n byte logged w insi
 
 -- what the changes leave is the joined memory
 pub joined_contents :
-    (l : Launch) (g : ℕ) (lower : Joined) (part : Part) (old : List (List ℕ)) (entries : List Entry) (kept : List Access) (first : List (List ℕ)) (spaces : List (List (Option ℕ)))
-    → IsClear l g lower part old entries kept first spaces → (listed : List Entry) → StandsFor [] listed entries → (new : List (List ℕ)) → AreChanged old new (changes_of (put_of first old kept spaces) listed)
-    → HoldsBytes l (joined_of l lower part) new
-joined_contents l g lower part old entries kept first spaces c listed stand new h =
-    record { many = h.many ∙ c.holds.many; sized = λ n. h.sized n ∙ c.holds.sized n; bytes = bytes }
+    (l : Launch) (g : ℕ) (lower : Joined) (part : Part) (old flags : List (List ℕ)) (entries : List Entry) (kept : List Access) (first : List (List ℕ)) (spaces : List (List (Option ℕ)))
+    → IsClear l g lower part old flags entries kept first spaces → (listed : List Entry) → StandsFor [] listed entries → (new after : List (List ℕ)) → AreChanged old new (changes_of (put_of first old kept spaces) listed)
+    → AreChanged flags after (changes_of no_flag listed) → HoldsBytes l (joined_of l lower part) new after
+joined_contents l g lower part old flags entries kept first spaces c listed stand new after h d =
+    record { many = h.many ∙ c.holds.many; flagged = d.many ∙ c.holds.flagged; sized = λ n. h.sized n ∙ c.holds.sized n; bytes = bytes }
   where
     value : ℕ → Access → ℕ → ℕ
     value = put_of first old kept spaces
@@ -271,30 +290,45 @@ joined_contents l g lower part old entries kept first spaces c listed stand new 
         let p = and_parts (writes e.access.kind) (at_byte (region.Buffer n) byte e.access) w in
         true≢false (sym (wrote_from part.end.log (region.Buffer n) byte e.access (entry_in k e q) p.0 p.1) ∙ none))
 
+    -- a flag of a byte that wasn't written, and of one that was
+    flag_kept : (n byte : ℕ) → wrote part.end.log (region.Buffer n) byte ≡ false → (o : Option ℕ) → slice_get (buffer_at flags n) byte ≡ o → is_flagged (buffer_at after n) byte ≡ is_unset o
+    flag_kept n byte w None e = ap is_unset (d.bytes n byte ∙ ap (option_map (changed_byte (changes_of no_flag listed) n byte)) e)
+    flag_kept n byte w (Some flag) e =
+        ap is_unset (d.bytes n byte ∙ ap (option_map (changed_byte (changes_of no_flag listed) n byte)) e)
+        ∙ ap (λ z. is_unset (Some z)) (entries_kept no_flag listed n byte flag (untouched n byte w))
+
+    flag_cleared : (n byte k : ℕ) (y : Entry) → slice_get listed k ≡ Some y → wrote_by n byte y.access ≡ true → (o : Option ℕ) → slice_get (buffer_at flags n) byte ≡ o → is_flagged (buffer_at after n) byte ≡ false
+    flag_cleared n byte k y q w None e = ap is_unset (d.bytes n byte ∙ ap (option_map (changed_byte (changes_of no_flag listed) n byte)) e)
+    flag_cleared n byte k y q w (Some flag) e =
+        ap is_unset (d.bytes n byte ∙ ap (option_map (changed_byte (changes_of no_flag listed) n byte)) e)
+        ∙ ap (λ z. is_unset (Some z)) (entries_put no_flag listed n byte flag 0 (λ j x p xw. refl) (inl (k, y, q, w)))
+
     at : (n byte v : ℕ) → byte < length (buffer_at l.buffers n) → slice_get (buffer_at old n) byte ≡ Some v → (b : Bool) → wrote part.end.log (region.Buffer n) byte ≡ b
-        → slice_get (buffer_at new n) byte ≡ joined_of l lower part (region.Buffer n) byte
+        → joined_of l lower part (region.Buffer n) byte ≡ held_byte (buffer_at new n) (buffer_at after n) byte
     at n byte v inside e false w =
-        changed n byte v e
-        ∙ ap Some (entries_kept value listed n byte v (untouched n byte w))
-        ∙ sym e
+        alone_memory (initial l) lower.memory lower.log part.end.memory part.end.log (region.Buffer n) byte w
         ∙ c.holds.bytes n byte inside
-        ∙ sym (alone_memory (initial l) lower.memory lower.log part.end.memory part.end.log (region.Buffer n) byte w)
+        ∙ ap₂ (λ (b : Bool) (o : Option ℕ). if b then None else o) (sym (flag_kept n byte w (slice_get (buffer_at flags n) byte) refl))
+        (e ∙ sym (changed n byte v e ∙ ap Some (entries_kept value listed n byte v (untouched n byte w))))
     at n byte v inside e true w =
         let z = wrote_some part.end.log (region.Buffer n) byte w in
         let zw : wrote_by n byte z.0 ≡ true = and_from (writes z.0.kind) (at_byte (region.Buffer n) byte z.0) z.2 z.3 in
-        let put = put_joined l g lower part old entries kept first spaces c z.0 n byte z.1 zw inside in
+        let put = put_joined l g lower part old flags entries kept first spaces c z.0 n byte z.1 zw inside in
         let there : wrote (accesses_of listed) (region.Buffer n) byte ≡ true = wrote_listed listed entries n byte stand ∙ kept_wrote part.end.log (accesses_of entries) (region.Buffer n) byte c.logged ∙ w in
         let k = wrote_some (accesses_of listed) (region.Buffer n) byte there in
         let kw : wrote_by n byte k.0 ≡ true = and_from (writes k.0.kind) (at_byte (region.Buffer n) byte k.0) k.2 k.3 in
         let y = logged_entry listed k.0 k.1 in
-        changed n byte v e
+        let yw : wrote_by n byte y.1.access ≡ true = ap (wrote_by n byte) y.3 ∙ kw in
+        put
         ∙ ap Some
+        (sym
         (entries_put value listed n byte v (value n z.0 byte)
-        (λ k x q xw. some_inj (value n x.access byte) (value n z.0 byte) (sym (put_joined l g lower part old entries kept first spaces c x.access n byte (entry_in k x q) xw inside) ∙ put))
-        (inl (y.0, y.1, y.2, ap (wrote_by n byte) y.3 ∙ kw)))
-        ∙ sym put
+        (λ k x q xw. some_inj (value n x.access byte) (value n z.0 byte) (sym (put_joined l g lower part old flags entries kept first spaces c x.access n byte (entry_in k x q) xw inside) ∙ put))
+        (inl (y.0, y.1, y.2, yw))))
+        ∙ sym (changed n byte v e)
+        ∙ sym (ap (λ (b : Bool). if b then None else slice_get (buffer_at new n) byte) (flag_cleared n byte y.0 y.1 y.2 yw (slice_get (buffer_at flags n) byte) refl))
 
-    bytes : (n byte : ℕ) → byte < length (buffer_at l.buffers n) → slice_get (buffer_at new n) byte ≡ joined_of l lower part (region.Buffer n) byte
+    bytes : (n byte : ℕ) → byte < length (buffer_at l.buffers n) → joined_of l lower part (region.Buffer n) byte ≡ held_byte (buffer_at new n) (buffer_at after n) byte
     bytes n byte inside =
         let there : byte < length (buffer_at old n) = omega (arith, inside, c.holds.sized n) in
         at n byte _ inside (slice_get-get_or (buffer_at old n) byte 0 there) (wrote part.end.log (region.Buffer n) byte) refl

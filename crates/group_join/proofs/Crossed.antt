@@ -49,12 +49,19 @@ pub record Laws : Type 0 where
   pub kept : KeptConflicts
   pub first : LowerFirst
 
+-- with which report a group stopped that made these accesses: that of its newest access's conflict, if it has one, and
+-- else that of no conflict
+pub record IsStop (launch : Launch) (made : List Access) (stopped : Option Fault) : Type 0 where
+  pub calm : newest_conflict launch made ≡ None → (byte : ℕ) → is_below stopped byte ≡ false
+  pub clash : (conflict : conflict_type.Conflict) → newest_conflict launch made ≡ Some conflict → stopped ≡ Some (conflict_fault launch conflict)
+
 -- what code holds of the groups so far and of one more, which has run
 pub record IsFurther (launch : Launch) (group : ℕ) (lower : Joined) (part : Part) (log : Log) (kept : List Access) : Type 0 where
   pub grouped : IsGrouped launch
   pub joined : IsJoined launch group lower
-  pub there : HasGroup launch group
-  pub runs : IsPart launch group part
+  pub own : (x : Access) → Logged part.end.log x → (group_of launch x.item ≡ group) × (object : Object) × (x.region ≡ region_of group object)
+  pub follows : Follows launch (reverse part.events) part.end.log
+  pub stop : IsStop launch part.end.log part.stopped
   pub logged : IsLogged (plan_of launch group) log part.events part.end
   pub keeps : Keeps lower.log kept
 
@@ -203,47 +210,71 @@ both_told l c d own last stopped f byte is e h at stops =
     ∙ lower_report l c d f byte e h
     ∙ sym (ap₂ (λ (a : Bool) b. if a && is_below b byte then b else Some f) at stops)
 
-newest_told : (p : Plan) (end : State) (stopped : Option Fault) (past : Events) (later rest : List Entry) (e : Entry) (k : ℕ) (entries : List Entry) (c : conflict_type.Conflict) (f : Fault) (byte : ℕ)
-    → Follows p.launch past end.log → end.log ≡ accesses (later ++ e ∷ rest) → turn_of p end ≡ ending stopped → (k + 1 ≡ length entries → Repeats later (e ∷ rest)) → EndsAt k later entries
-    → c.byte ≡ byte → conflict_fault p.launch c ≡ f → IsLowerReport p.launch c (newest_conflict p.launch (accesses (e ∷ rest))) (k + 1 == length entries) stopped f byte
-newest_told p end stopped past [] rest e k entries c f byte follows log turn repeats ends at tells =
-    go (newest_conflict p.launch (accesses (e ∷ rest))) refl
+newest_told : (l : Launch) (made : List Access) (stopped : Option Fault) (past : Events) (later rest : List Entry) (e : Entry) (k : ℕ) (entries : List Entry) (c : conflict_type.Conflict) (f : Fault) (byte : ℕ)
+    → Follows l past made → made ≡ accesses (later ++ e ∷ rest) → IsStop l made stopped → (k + 1 ≡ length entries → Repeats later (e ∷ rest)) → EndsAt k later entries
+    → c.byte ≡ byte → conflict_fault l c ≡ f → IsLowerReport l c (newest_conflict l (accesses (e ∷ rest))) (k + 1 == length entries) stopped f byte
+newest_told l made stopped past [] rest e k entries c f byte follows log stop repeats ends at tells =
+    go (newest_conflict l (accesses (e ∷ rest))) refl
   where
-    newest : newest_conflict p.launch end.log ≡ newest_conflict p.launch (accesses (e ∷ rest))
-    newest = ap (newest_conflict p.launch) log
+    newest : newest_conflict l made ≡ newest_conflict l (accesses (e ∷ rest))
+    newest = ap (newest_conflict l) log
 
     last : (k + 1 == length entries) ≡ true
     last = eq-eqb (k + 1) (length entries) ends
 
-    go : (o : Option conflict_type.Conflict) → newest_conflict p.launch (accesses (e ∷ rest)) ≡ o
-        → IsLowerReport p.launch c (newest_conflict p.launch (accesses (e ∷ rest))) (k + 1 == length entries) stopped f byte
+    go : (o : Option conflict_type.Conflict) → newest_conflict l (accesses (e ∷ rest)) ≡ o
+        → IsLowerReport l c (newest_conflict l (accesses (e ∷ rest))) (k + 1 == length entries) stopped f byte
     go None is =
-        alone_told p.launch c _ (k + 1 == length entries) stopped f byte is tells
-        (and_none (k + 1 == length entries) (is_below stopped byte) (λ _. calm_end p end stopped byte (newest ∙ is) turn))
-    go (Some d) is = both_told p.launch c d _ (k + 1 == length entries) stopped f byte is at tells last (conflict_end p end stopped d (newest ∙ is) turn)
-newest_told p end stopped past (z ∷ more) rest e k entries c f byte follows log turn repeats ends at tells =
-    alone_told p.launch c _ (k + 1 == length entries) stopped f byte
-    (inner_calm p.launch past z.access (accesses more) (accesses (e ∷ rest))
-    (subst (Follows p.launch past) (log ∙ ap (λ w. z.access ∷ w) (map-append (λ (y : Entry). y.access) more (e ∷ rest))) follows))
+        alone_told l c _ (k + 1 == length entries) stopped f byte is tells
+        (and_none (k + 1 == length entries) (is_below stopped byte) (λ _. stop.calm (newest ∙ is) byte))
+    go (Some d) is = both_told l c d _ (k + 1 == length entries) stopped f byte is at tells last (stop.clash d (newest ∙ is))
+newest_told l made stopped past (z ∷ more) rest e k entries c f byte follows log stop repeats ends at tells =
+    alone_told l c _ (k + 1 == length entries) stopped f byte
+    (inner_calm l past z.access (accesses more) (accesses (e ∷ rest))
+    (subst (Follows l past) (log ∙ ap (λ w. z.access ∷ w) (map-append (λ (y : Entry). y.access) more (e ∷ rest))) follows))
     tells
     (and_none (k + 1 == length entries) (is_below stopped byte)
-    (λ last. calm_end p end stopped byte
-    (ap (newest_conflict p.launch) log ∙ repeat_calm p.launch past z.access (accesses (more ++ e ∷ rest)) (subst (Follows p.launch past) log follows) (repeats (eqb-true (k + 1) (length entries) last)))
-    turn))
+    (λ last. stop.calm
+    (ap (newest_conflict l) log ∙ repeat_calm l past z.access (accesses (more ++ e ∷ rest)) (subst (Follows l past) log follows) (repeats (eqb-true (k + 1) (length entries) last)))
+    byte))
 
 -- ---- what code holds
 
-follows_end : (launch : Launch) (group : ℕ) (part : Part) → IsPart launch group part → Follows launch (reverse part.events) part.end.log
+pub follows_end : (launch : Launch) (group : ℕ) (part : Part) → IsPart launch group part → Follows launch (reverse part.events) part.end.log
 follows_end launch group part runs = runs_follow (plan_of launch group) (start launch) part.end part.events refl runs.0
 
-made_all : (launch : Launch) (group : ℕ) (part : Part) → IsPart launch group part → accesses (numbered (reverse part.events) part.end.log) ≡ part.end.log
-made_all launch group part runs = numbered_all launch (reverse part.events) part.end.log (follows_end launch group part runs)
+-- what is held of a group that has run
+pub further_part : (laws : Laws) (launch : Launch) (group : ℕ) (lower : Joined) (part : Part) (log : Log) (kept : List Access) → IsGrouped launch → IsJoined launch group lower → HasGroup launch group
+    → IsPart launch group part → IsLogged (plan_of launch group) log part.events part.end → Keeps lower.log kept → IsFurther launch group lower part log kept
+further_part laws launch group lower part log kept grouped joined there runs logged keeps =
+    record {
+      grouped = grouped;
+      joined = joined;
+      own = laws.own launch group part grouped there runs;
+      follows = follows_end launch group part runs;
+      stop = record {
+        calm = λ calm byte. calm_end (plan_of launch group) part.end part.stopped byte calm runs.1;
+        clash = λ d is. conflict_end (plan_of launch group) part.end part.stopped d is runs.1;
+      };
+      logged = logged;
+      keeps = keeps;
+    }
+
+made_all : (launch : Launch) (part : Part) → Follows launch (reverse part.events) part.end.log → accesses (numbered (reverse part.events) part.end.log) ≡ part.end.log
+made_all launch part follows = numbered_all launch (reverse part.events) part.end.log follows
+
+-- an entry is of an event of the run
+pub entry_inside : (launch : Launch) (group : ℕ) (lower : Joined) (part : Part) (log : Log) (kept : List Access) → IsFurther launch group lower part log kept
+    → (k : ℕ) (e : Entry) → slice_get log.accesses k ≡ Some e → e.event < length part.events
+entry_inside launch group lower part log kept h k e at =
+    let f : Found (numbered (reverse part.events) part.end.log) log.accesses k e = found (numbered (reverse part.events) part.end.log) log.accesses k e h.logged.noted at in
+    (cut launch part.events e f.rest (placed launch (reverse part.events) part.end.log f.later f.rest e h.follows f.parts)).inside
 
 -- an entry is of an access of the run
 entry_logged : (launch : Launch) (group : ℕ) (lower : Joined) (part : Part) (log : Log) (kept : List Access) → IsFurther launch group lower part log kept
     → (k : ℕ) (e : Entry) → slice_get log.accesses k ≡ Some e → Logged part.end.log e.access
 entry_logged launch group lower part log kept h k e at =
-    subst (λ z. Logged z e.access) (made_all launch group part h.runs)
+    subst (λ z. Logged z e.access) (made_all launch part h.follows)
     (there_made (numbered (reverse part.events) part.end.log) log.accesses e.access h.logged.noted (at_there log.accesses k e at))
 
 not_same : (g a b : ℕ) → a < g → b ≡ g → a ≡ b → ⊥
@@ -253,7 +284,7 @@ lower_than : (laws : Laws) (launch : Launch) (group : ℕ) (lower : Joined) (par
     → (x y : Access) → Logged part.end.log x → Logged lower.log y → group_of launch y.item ≡ group_of launch x.item → ⊥
 lower_than laws launch group lower part log kept h x y a b e =
     not_same group (group_of launch y.item) (group_of launch x.item) (laws.lower launch group lower h.grouped h.joined y b).0
-    (laws.own launch group part h.grouped h.there h.runs x a).0 e
+    (h.own x a).0 e
 
 -- an access of the run conflicts with the lower groups as with what is kept of them
 kept_conflict : (laws : Laws) (launch : Launch) (group : ℕ) (lower : Joined) (part : Part) (log : Log) (kept : List Access) → IsFurther launch group lower part log kept
@@ -278,7 +309,7 @@ locals_miss laws launch group lower part log kept h k e owner number at mine =
     (none_from (conflict_between (across_groups launch.uniform)) e.access kept (λ y b byte. apart_between (across_groups launch.uniform) y e.access byte (λ same. apart y (logged_kept lower.log kept y h.keeps b) same)) e.access.first (byte_count e.access.width))
   where
     own : (object : Object) × (e.access.region ≡ region_of group object)
-    own = let r = laws.own launch group part h.grouped h.there h.runs e.access (entry_logged launch group lower part log kept h k e at) in (r.1, r.2)
+    own = let r = h.own e.access (entry_logged launch group lower part log kept h k e at) in (r.1, r.2)
 
     apart : (y : Access) → Logged lower.log y → y.region ≡ e.access.region → ⊥
     apart y b same =
@@ -291,7 +322,7 @@ not_crossed laws launch group lower part log kept h misses = crossing_none launc
     each : (y : Access) → Logged part.end.log y → conflict_from (conflict launch) y lower.log y.first (byte_count y.width) ≡ None
     each y a =
         let r = there_at log.accesses y
-        (made_there (numbered (reverse part.events) part.end.log) log.accesses y h.logged.noted (subst (λ z. Logged z y) (sym (made_all launch group part h.runs)) a)) in
+        (made_there (numbered (reverse part.events) part.end.log) log.accesses y h.logged.noted (subst (λ z. Logged z y) (sym (made_all launch part h.follows)) a)) in
         missed laws launch group lower part log kept h y a
         (subst (λ z. meeting launch.uniform z kept ≡ None) r.3 (misses r.0 r.1 (get_below log.accesses r.0 r.1 r.2) r.2))
 
@@ -311,18 +342,18 @@ crossed laws launch group lower part log kept h k e met at misses meets =
           ap (λ o. (join_at launch lower part o).report) cross
           ∙ ap (option_map (conflict_fault launch))
           (laws.first (conflict launch) e.access (accesses f.rest) lower.log e.access.first (byte_count e.access.width) ∙ ap (λ o. lower_first o (newest_conflict launch (accesses (e ∷ f.rest)))) conflicts)
-          ∙ newest_told (plan_of launch group) part.end part.stopped (reverse part.events) f.later f.rest e k log.accesses m.conflict (meeting_fault launch e.access met) met.byte
-          follows made h.runs.1 f.repeats f.ends (ap (λ z. z.byte) m.told) (met_fault launch e.access kept met m);
+          ∙ newest_told launch part.end.log part.stopped (reverse part.events) f.later f.rest e k log.accesses m.conflict (meeting_fault launch e.access met) met.byte
+          follows made h.stop f.repeats f.ends (ap (λ z. z.byte) m.told) (met_fault launch e.access kept met m);
     }
   where
     follows : Follows launch (reverse part.events) part.end.log
-    follows = follows_end launch group part h.runs
+    follows = h.follows
 
     f : Found (numbered (reverse part.events) part.end.log) log.accesses k e
     f = found (numbered (reverse part.events) part.end.log) log.accesses k e h.logged.noted at
 
     made : part.end.log ≡ accesses (f.later ++ e ∷ f.rest)
-    made = sym (made_all launch group part h.runs) ∙ ap accesses f.parts
+    made = sym (made_all launch part h.follows) ∙ ap accesses f.parts
 
     c : Cut part.events e f.rest
     c = cut launch part.events e f.rest (placed launch (reverse part.events) part.end.log f.later f.rest e follows f.parts)

@@ -71,7 +71,7 @@ get_below [] k e h = absurd (none_some e h)
 get_below (y ∷ xs) zero e h = omega arith
 get_below (y ∷ xs) (suc k) e h = let r : k < length xs = get_below xs k e h in omega (arith, r)
 
-get_push : (xs : List Entry) (x : Entry) (k : ℕ) (e : Entry) → slice_get (xs ++ x ∷ []) k ≡ Some e → (slice_get xs k ≡ Some e) ⊎ ((k ≡ length xs) × (x ≡ e))
+pub get_push : (xs : List Entry) (x : Entry) (k : ℕ) (e : Entry) → slice_get (xs ++ x ∷ []) k ≡ Some e → (slice_get xs k ≡ Some e) ⊎ ((k ≡ length xs) × (x ≡ e))
 get_push [] x zero e h = inr (refl, some_inj x e h)
 get_push [] x (suc k) e h = absurd (none_some e h)
 get_push (y ∷ xs) x zero e h = inl h

@@ -1,38 +1,33 @@
--- Bytes of buffers stay set while a group runs.
-use Rattle.std.proofs.Common.{◌≡◌, ℕ, ◌<◌, true, Option, None, Some, [], ◌∷◌, refl, ap, ◌∙◌, subst}
+-- Bytes of buffers that are set.
+use Rattle.std.proofs.Common.{◌≡◌, ℕ, Bool, true, false, Option, None, Some, refl}
 use Rattle.std.proofs.lemmas.Bool.{true≢false}
-use Rattle.std.proofs.lemmas.Option.{slice_get-get_or}
-use Rattle.std.specs.Prelude.{length}
+use Rattle.std.specs.Prelude.{slice_get, if◌then◌else◌}
 use Rattle.clmodel.specs.Launch.{Launch}
-use Rattle.clmodel.specs.Run.{State, Events, start, step}
+use Rattle.clmodel.specs.Run.{initial, start}
 use Rattle.clmodel.specs.declared.access.Region.{Region}
 use Rattle.clmodel.specs.declared.access.Region.TheVariants as region
-use Rattle.clmodel.specs.declared.schedule.Event.{Event}
-use Rattle.clmodel.specs.declared.schedule.Event.TheVariants.{Item, Release}
-use Rattle.clmodel.proofs.Steps.{region_for, item_inverse, release_inverse}
-use Rattle.joining.specs.Group.{Plan, RunsIn, plan_of}
+use Rattle.clmodel.proofs.Steps.{none_some}
+use Rattle.joining.specs.Group.{plan_of}
+use Rattle.joining.specs.Memory.{wrote}
 use Rattle.joining.specs.Parts.{Part, IsPart}
-use Rattle.joining.proofs.Over.{is_set, set_keeps}
+use Rattle.joining.proofs.Begun.{begun_start, begun_in}
+use Rattle.joining.proofs.Over.{is_set}
 use Rattle.group_join.specs.Changes.{buffer_at}
 
--- a byte that is set stays so
-step_set : (l : Launch) (s t : State) (e : Event) (q : Region) (byte : ℕ) → step l s e ≡ Some t → is_set (s.memory q byte) ≡ true → is_set (t.memory q byte) ≡ true
-step_set l s t (Item i) q byte h b =
-    let r = item_inverse l s i t h in
-    subst (λ (z : State). is_set (z.memory q byte) ≡ true) r.gives
-    (set_keeps s.memory (region_for l i r.object) r.operation r.first r.value q byte (λ e c. subst (λ z. is_set (s.memory z byte) ≡ true) e b) ∙ b)
-step_set l s t (Release g) q byte h b = subst (λ (z : State). is_set (z.memory q byte) ≡ true) (release_inverse l s g t h).gives b
+-- where a byte is left out unless it is set, one that is there is set
+pub there_set : (b : Bool) (o : Option ℕ) (v : ℕ) → (if b then None else o) ≡ Some v → o ≡ Some v
+there_set true o v h = absurd (none_some v h)
+there_set false o v h = h
 
-run_set : (p : Plan) (s end : State) (events : Events) (q : Region) (byte : ℕ) → RunsIn p s events end → is_set (s.memory q byte) ≡ true → is_set (end.memory q byte) ≡ true
-run_set p s end [] q byte r b = subst (λ (z : State). is_set (z.memory q byte) ≡ true) r b
-run_set p s end (e ∷ events) q byte r b = run_set p r.0 end events q byte r.3 (step_set p.launch s r.0 e q byte r.2 b)
+-- a byte of a buffer that is set at the start is what its buffer has
+pub first_set : (l : Launch) (n byte v : ℕ) → initial l (region.Buffer n) byte ≡ Some v → slice_get (buffer_at l.buffers n) byte ≡ Some v
+first_set l n byte v h = there_set (l.unset n byte) (slice_get (buffer_at l.buffers n) byte) v h
 
 pub set_some : (o : Option ℕ) → is_set o ≡ true → (v : ℕ) × (o ≡ Some v)
 set_some None h = absurd (true≢false (cc))
 set_some (Some v) h = (v, refl)
 
--- a group leaves each byte of a buffer set
-pub own_set : (l : Launch) (g : ℕ) (part : Part) → IsPart l g part → (n byte : ℕ) → byte < length (buffer_at l.buffers n) → (v : ℕ) × (part.end.memory (region.Buffer n) byte ≡ Some v)
-own_set l g part p n byte b =
-    set_some (part.end.memory (region.Buffer n) byte)
-    (run_set (plan_of l g) (start l) part.end part.events (region.Buffer n) byte p.0 (ap is_set (slice_get-get_or (buffer_at l.buffers n) byte 0 b)))
+-- a byte that a group wrote is set
+pub own_wrote : (l : Launch) (g : ℕ) (part : Part) → IsPart l g part → (p : Region) (byte : ℕ) → wrote part.end.log p byte ≡ true → (v : ℕ) × (part.end.memory p byte ≡ Some v)
+own_wrote l g part is p byte w =
+    set_some (part.end.memory p byte) ((begun_in (plan_of l g) part.events (start l) part.end is.0 (begun_start l)).written p byte w)

@@ -6,7 +6,7 @@ use Rattle.clmodel.specs.Launch.{Launch}
 use Rattle.group_run.specs.Results.{IsResult}
 use Rattle.group_run.specs.declared.result.GroupResult.{GroupResult}
 use Rattle.group_run.specs.declared.result.GroupEnd.{GroupEnd}
-use Rattle.group_run.specs.declared.result.GroupEnd.TheVariants.{Done, Stopped}
+use Rattle.group_run.specs.declared.result.GroupEnd.TheVariants.{Done, Stopped, Unset}
 use Rattle.joining.specs.Steps.{HasGroup}
 use Rattle.access_list.specs.Log.{Log}
 use Rattle.group_join.specs.Launches.{Followed, AreResults, is_stop, is_stopped}
@@ -18,10 +18,12 @@ Lead bytes log_of l group results = (rest : List (GroupResult _ _)) → AreResul
 followed_done : {G : Type 0} (end : GroupEnd G) (more none : Type 0) → is_stop end ≡ false → more → Followed end more none
 followed_done (Done spaces) more none e h = h
 followed_done (Stopped fault) more none e h = absurd (false≢true (sym e))
+followed_done (Unset entry own spaces) more none e h = absurd (false≢true (sym e))
 
 followed_stopped : {G : Type 0} (end : GroupEnd G) (more none : Type 0) → is_stop end ≡ true → none → Followed end more none
 followed_stopped (Done spaces) more none e h = absurd (false≢true e)
 followed_stopped (Stopped fault) more none e h = h
+followed_stopped (Unset entry own spaces) more none e h = h
 
 one_done : {G L : Type 0} (bytes : G → List (Option ℕ)) (log_of : L → Log) (l : Launch) (group : ℕ) (came : GroupResult G L) (rest : List (GroupResult G L))
     → is_stopped came ≡ false → HasGroup l group → IsResult bytes log_of l group came → AreResults bytes log_of l (suc group) rest → AreResults bytes log_of l group (came ∷ rest)

@@ -14,7 +14,7 @@ use Rattle.group_run.specs.Logs.{accesses_of}
 use Rattle.group_run.specs.Results.{IsResult, IsGroupEnd}
 use Rattle.group_run.specs.declared.result.GroupResult.{GroupResult}
 use Rattle.group_run.specs.declared.result.GroupEnd.{GroupEnd}
-use Rattle.group_run.specs.declared.result.GroupEnd.TheVariants.{Done, Stopped}
+use Rattle.group_run.specs.declared.result.GroupEnd.TheVariants.{Done, Stopped, Unset}
 use Rattle.shadow.specs.Lasting.{StandsFor, StandsWith}
 use Rattle.shadow.specs.Seen.{IsFootprint, seen, is_written, met_at}
 use Rattle.shadow.specs.declared.footprint.Footprint.{Footprint}
@@ -29,7 +29,7 @@ use Rattle.group_join.specs.Launches.{IsShortResult}
 use Rattle.group_join.specs.Meetings.{AreOthers, MissUpTo, IsFirstMet}
 use Rattle.group_join.specs.declared.joined_groups.JoinEnd.TheVariants.{Continues}
 use Rattle.group_join.specs.declared.meetings.FirstConflict.{FirstConflict}
-use Rattle.spaces.specs.Overlay.{Overlaid}
+use Rattle.spaces.specs.Parts.{Parted}
 
 -- ---- entries of lists
 
@@ -202,7 +202,8 @@ short_whole bytes log_of l g came is = (log_of came.log, whole_stands (log_of ca
 
 end_uniform : {G : Type 0} (bytes : G → List (Option ℕ)) (l : Launch) (g : ℕ) (log : Log) (events : Events) (end : GroupEnd G) → IsGroupEnd bytes l g log events end → log.uniform ≡ l.uniform
 end_uniform bytes l g log events (Done spaces) is = is.0.holds.logged.uniform
-end_uniform bytes l g log events (Stopped fault) is = is.holds.uniform
+end_uniform bytes l g log events (Stopped fault) is = is.run.holds.uniform
+end_uniform bytes l g log events (Unset entry own spaces) is = is.1.holds.logged.uniform
 
 -- the log that is handed back is of the launch's flag
 pub back_uniform : {G L : Type 0} (bytes : G → List (Option ℕ)) (log_of : L → Log) (l : Launch) (g : ℕ) (came : GroupResult G L) (back : L) → IsResult bytes log_of l g came → HandsBack came.log (Continues back)
@@ -210,5 +211,5 @@ pub back_uniform : {G L : Type 0} (bytes : G → List (Option ℕ)) (log_of : L 
 back_uniform bytes log_of l g came back is e =
     ap (λ z. (log_of z).uniform) e ∙ end_uniform bytes l g (log_of came.log) (events_of came.runs) came.end is.2
 
-abbrev pub bytes_of : Overlaid → List (Option ℕ)
+abbrev pub bytes_of : Parted → List (Option ℕ)
 bytes_of overlay = overlay.bytes

@@ -1,7 +1,10 @@
 -- Numbers whose bytes are what the bytes of an access become.
-use Rattle.std.proofs.Common.{◌≡◌, ℕ, zero, suc, ◌+◌, ◌-◌, ◌*◌, ◌/◌, ◌%◌, ◌^◌, ◌<◌, ◌≤◌, ◌⊎◌, Bool, true, Option, None, Some, List, [], ◌∷◌, refl, sym, ap, ap₂, ◌∙◌, subst, inl, inr, arith}
-use Rattle.std.specs.Prelude.{Result, Ok, Err, OnOk}
-use Rattle.std.proofs.Math.Nat.{pow-succ', div-div-eq-div-mul, div-one}
+use Rattle.std.proofs.Common.{Bor, length, map, ◌≡◌, ℕ, zero, suc, ◌+◌, ◌-◌, ◌*◌, ◌/◌, ◌%◌, ◌^◌, ◌<◌, ◌≤◌, ◌⊎◌, Bool, true, Option, None, Some, List, [], ◌∷◌, refl, sym, ap, ap₂, ◌∙◌, subst, inl, inr, arith}
+use Rattle.std.specs.Prelude.{All, Result, Ok, Err, OnOk, slice_get}
+use Rattle.std.specs.List.{AllByRecursion}
+use Rattle.std.specs.Option.{option_map}
+use Rattle.std.proofs.lemmas.List.Elements.{recursion_from_All}
+use Rattle.std.proofs.Math.Nat.{pow-succ', div-div-eq-div-mul, div-one, zero-div}
 use Rattle.clmodel.specs.Cells.{Cells, byte_count, byte_of, covers, joined, number}
 use Rattle.clmodel.specs.declared.access.Access.{Access}
 use Rattle.clmodel.specs.declared.access.AccessKind.{AccessKind}
@@ -12,7 +15,8 @@ use Rattle.clmodel.specs.declared.access.Region.TheVariants as region
 use Rattle.clmodel.proofs.CellLaws.{covers_parts, covers_from}
 use Rattle.clmodel.proofs.Steps.{none_some, some_inj, if_true}
 use Rattle.joining.specs.Memory.{writes}
-use Rattle.group_join.specs.Changes.{ByteChange, byte_changes, changes_at, access_changes, bytes_of, number_or_0, joined_value, value_of, cells_at, filled_at, AreChanged, IsValue, AreBytes, WroteBytes, IsKept}
+use Rattle.spaces.specs.Changes.{Changed, with_changes, all_with_changes}
+use Rattle.group_join.specs.Changes.{buffer_at, changed_byte, no_flag, ByteChange, byte_changes, changes_at, access_changes, bytes_of, number_or_0, joined_value, value_of, cells_at, filled_at, AreChanged, IsValue, AreBytes, WroteBytes, IsKept}
 use Rattle.group_join.proofs.Numbers.{one_byte, first_or_later}
 
 -- ---- the bytes of a number
@@ -138,3 +142,39 @@ pub change_made_ok :
     → OnOk r ((value : ℕ → Access → ℕ → ℕ) → WroteBytes own x → IsKept value own x kept → AreChanged old new (access_changes value x))
 change_made_ok (Ok t) old new n x v own kept w r is h = λ value wrote k. change_made value old new n x v w r (is value wrote k) h
 change_made_ok (Err e) old new n x v own kept w r is h = tt
+
+-- ---- flags
+
+byte_zero : (k : ℕ) → byte_of k 0 ≡ 0
+byte_zero k = ap (λ z. z % 256) (zero-div (256 ^ k))
+
+-- the flags of the bytes of a write are made 0
+pub flags_made_ok :
+    {T E : Type 0} (r : Result T E) (old new : List (List ℕ)) (n : ℕ) (x : Access) → writes x.kind ≡ true → x.region ≡ region.Buffer n
+    → OnOk r (AreChanged old new (bytes_of (record { buffer = n; width = x.width; first = x.first; value = 0 }))) → OnOk r (AreChanged old new (access_changes no_flag x))
+flags_made_ok (Ok t) old new n x w r h = change_made no_flag old new n x 0 w r (record { each = λ byte c. byte_zero (byte - x.first) }) h
+flags_made_ok (Err e) old new n x w r h = tt
+
+empty_row : (row : List ℕ) (one : Changed) → row ≡ [] → with_changes row one ≡ []
+unfolding with_changes
+empty_row row one e = ap (λ z. with_changes z one) e
+
+-- flags that there are none of don't change
+pub no_flags_changed : (rows : List (Bor (List ℕ))) (cleared : List Changed) (changes : List ByteChange) → All (λ (row : Bor (List ℕ)). row.now ≡ []) rows
+    → AreChanged (all_with_changes (map (λ row. row.now) rows) cleared) (all_with_changes (map (λ row. row.now) rows) cleared) changes
+no_flags_changed rows cleared changes none =
+    record { many = refl; sized = λ n. refl; bytes = λ n byte. by n byte }
+  where
+    now : List (List ℕ)
+    now = map (λ (row : Bor (List ℕ)). row.now) rows
+
+    empty_at : (rows : List (Bor (List ℕ))) (cleared : List Changed) (n : ℕ) → AllByRecursion (λ (row : Bor (List ℕ)). row.now ≡ []) rows → buffer_at (all_with_changes (map (λ (row : Bor (List ℕ)). row.now) rows) cleared) n ≡ []
+    empty_at [] cleared n h = refl
+    empty_at (row ∷ rows) [] n h = refl
+    empty_at (row ∷ rows) (one ∷ cleared) zero h = empty_row row.now one h.0
+    empty_at (row ∷ rows) (one ∷ cleared) (suc n) h = empty_at rows cleared n h.1
+
+    by : (n byte : ℕ) → slice_get (buffer_at (all_with_changes now cleared) n) byte ≡ option_map (changed_byte changes n byte) (slice_get (buffer_at (all_with_changes now cleared) n) byte)
+    by n byte =
+        let e = empty_at rows cleared n (recursion_from_All (λ (row : Bor (List ℕ)). row.now ≡ []) rows none) in
+        ap (λ z. slice_get z byte) e ∙ sym (ap (λ z. option_map (changed_byte changes n byte) (slice_get z byte)) e)

@@ -85,9 +85,9 @@ space_within m k (x ∷ bs) (suc n) byte v h = space_within m (suc k) bs n byte 
 
 -- what a group's accesses wrote in its spaces are bytes
 pub wrote_bytes :
-    (l : Launch) (g : ℕ) (lower : Joined) (part : Part) (old : List (List ℕ)) (entries : List Entry) (kept : List Access) (first : List (List ℕ)) (spaces : List (List (Option ℕ)))
-    → IsClear l g lower part old entries kept first spaces → (listed : List Entry) → StandsFor [] listed entries → AllWroteBytes spaces listed
-wrote_bytes l g lower part old entries kept first spaces c listed stand k e at =
+    (l : Launch) (g : ℕ) (lower : Joined) (part : Part) (old flags : List (List ℕ)) (entries : List Entry) (kept : List Access) (first : List (List ℕ)) (spaces : List (List (Option ℕ)))
+    → IsClear l g lower part old flags entries kept first spaces → (listed : List Entry) → StandsFor [] listed entries → AllWroteBytes spaces listed
+wrote_bytes l g lower part old flags entries kept first spaces c listed stand k e at =
     record { each = λ n w r. record { each = λ byte v covered is. below n w r byte v covered is } }
   where
     logged : Logged part.end.log e.access

@@ -4,9 +4,10 @@ use Rattle.std.specs.Prelude.{All, Result, Ok, Err, OnOk, slice_get}
 use Rattle.std.specs.List.{AllByRecursion}
 use Rattle.std.proofs.lemmas.List.Elements.{recursion_from_All}
 use Rattle.spaces.specs.Changes.{Changed, with_changes, all_with_changes}
-use Rattle.clmodel.specs.Cells.{cells_of, byte_count, byte_of, written}
+use Rattle.clmodel.specs.Cells.{cells_of, byte_count, byte_of, written, held_cells}
 use Rattle.spaces.proofs.Changed.{changed_many}
 use Rattle.group_join.specs.Changes.{buffer_at, bytes_of, AreChanged, filled_at, number_or_0}
+use Rattle.group_join.specs.Ends.{all_cells}
 use Rattle.group_join.specs.declared.changes.Change.{Change}
 use Rattle.group_join.proofs.Changing.{changed_written, changed_nothing}
 use Rattle.group_join.proofs.Numbers.{number_past, or_0, past_0}
@@ -132,3 +133,43 @@ word_past rows changes n at h =
 -- what a word with changes is where the row ends before
 pub changed_past : (row : List ℕ) (one : Changed) (at : ℕ) → leb (at + 4) (length row) ≡ false → 0 ≡ number_or_0 (cells_of (map Some (with_changes row one))) at 4
 changed_past row one at h = past_0 (with_changes row one) at 4 (omega arith) (ap (leb (at + 4)) (changed_many row one) ∙ h)
+
+-- ---- buffers beside their flags
+
+-- a buffer more, and its flags
+pub cells_more : (xs fs : List (List ℕ)) (x f : List ℕ) → length xs ≡ length fs → all_cells (xs ++ x ∷ []) (fs ++ f ∷ []) ≡ all_cells xs fs ++ held_cells x f ∷ []
+cells_more [] [] x f e = refl
+cells_more [] (g ∷ fs) x f e = absurd (omega (arith, e))
+cells_more (y ∷ xs) [] x f e = absurd (omega (arith, e))
+cells_more (y ∷ xs) (g ∷ fs) x f e = ap (λ z. held_cells y g ∷ z) (cells_more xs fs x f (omega (arith, e)))
+
+-- how many there are of both
+pub zipped_count : (rows : List (List ℕ)) (changes : List Changed) (n : ℕ) → n ≤ length rows → n ≤ length changes → length (all_with_changes (take n rows) (take n changes)) ≡ n
+zipped_count rows changes zero a b = refl
+zipped_count [] changes (suc n) a b = absurd (omega (arith, a))
+zipped_count (row ∷ rows) [] (suc n) a b = absurd (omega (arith, b))
+zipped_count (row ∷ rows) (one ∷ changes) (suc n) a b = ap suc (zipped_count rows changes n (omega (arith, a)) (omega (arith, b)))
+
+-- as many of all as there are of each
+pub cells_zipped : (rows flags : List (List ℕ)) (changes cleared : List Changed) (n : ℕ) → length rows ≡ length flags → (length rows ≤ n) ⊎ ((length changes ≤ n) ⊎ (length cleared ≤ n))
+    → all_cells (all_with_changes (take n rows) (take n changes)) (all_with_changes (take n flags) (take n cleared)) ≡ all_cells (all_with_changes rows changes) (all_with_changes flags cleared)
+cells_zipped [] flags changes cleared zero e h = refl
+cells_zipped [] flags changes cleared (suc n) e h = refl
+cells_zipped (row ∷ rows) [] changes cleared n e h = absurd (omega (arith, e))
+cells_zipped (row ∷ rows) (flag ∷ flags) [] cleared zero e h = refl
+cells_zipped (row ∷ rows) (flag ∷ flags) [] cleared (suc n) e h = refl
+cells_zipped (row ∷ rows) (flag ∷ flags) (one ∷ changes) [] zero e h = refl
+cells_zipped (row ∷ rows) (flag ∷ flags) (one ∷ changes) [] (suc n) e h = refl
+cells_zipped (row ∷ rows) (flag ∷ flags) (one ∷ changes) (other ∷ cleared) zero e h = absurd (none h)
+  where
+    none : (length (row ∷ rows) ≤ 0) ⊎ ((length (one ∷ changes) ≤ 0) ⊎ (length (other ∷ cleared) ≤ 0)) → ⊥
+    none (inl a) = omega (arith, a)
+    none (inr (inl a)) = omega (arith, a)
+    none (inr (inr a)) = omega (arith, a)
+cells_zipped (row ∷ rows) (flag ∷ flags) (one ∷ changes) (other ∷ cleared) (suc n) e h =
+    ap (λ z. held_cells (with_changes row one) (with_changes flag other) ∷ z) (cells_zipped rows flags changes cleared n (omega (arith, e)) (less h))
+  where
+    less : (length (row ∷ rows) ≤ suc n) ⊎ ((length (one ∷ changes) ≤ suc n) ⊎ (length (other ∷ cleared) ≤ suc n)) → (length rows ≤ n) ⊎ ((length changes ≤ n) ⊎ (length cleared ≤ n))
+    less (inl a) = inl (omega (arith, a))
+    less (inr (inl a)) = inr (inl (omega (arith, a)))
+    less (inr (inr a)) = inr (inr (omega (arith, a)))

@@ -83,6 +83,10 @@ abbrev pub value_of : List (List ℕ) → List (List ℕ) → (ℕ → ℕ → B
 value_of first lower wrote own number x byte =
     joined_value x.kind (wrote number byte) (filled_at first number) (filled_at lower number) (cells_at own number) byte
 
+-- the flag of a byte that is written: the byte is set then (own)
+abbrev pub no_flag : ℕ → Access → ℕ → ℕ
+no_flag number x byte = 0
+
 -- the bytes of a change: each becomes a byte of its value, the first the lowest (own)
 abbrev pub bytes_of : Change → List ByteChange
 bytes_of change = byte_changes change.buffer change.first (byte_count change.width) (λ byte. byte_of (byte - change.first) change.value)

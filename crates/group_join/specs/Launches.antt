@@ -6,7 +6,7 @@ use Rattle.group_log.specs.declared.group.GroupLog.{GroupLog}
 use Rattle.group_run.specs.Results.{IsResult}
 use Rattle.group_run.specs.declared.result.GroupResult.{GroupResult}
 use Rattle.group_run.specs.declared.result.GroupEnd.{GroupEnd}
-use Rattle.group_run.specs.declared.result.GroupEnd.TheVariants.{Done, Stopped}
+use Rattle.group_run.specs.declared.result.GroupEnd.TheVariants.{Done, Stopped, Unset}
 use Rattle.joining.specs.Steps.{HasGroup}
 use Rattle.shadow.specs.Lasting.{StandsWith}
 use Rattle.access_list.specs.Log.{Log}
@@ -18,11 +18,13 @@ use Rattle.group_join.specs.declared.heap_log.HeapLog.{HeapLog}
 abbrev pub Followed : {G : Type 0} → GroupEnd G → Type 0 → Type 0 → Type 0
 Followed (Done spaces) more none = more
 Followed (Stopped fault) more none = none
+Followed (Unset entry own spaces) more none = none
 
 -- a group has stopped, by its end and by its result (own)
 abbrev pub is_stop : {G : Type 0} → GroupEnd G → Bool
 is_stop (Done spaces) = false
 is_stop (Stopped fault) = true
+is_stop (Unset entry own spaces) = true
 
 abbrev pub is_stopped : {G L : Type 0} → GroupResult G L → Bool
 is_stopped came = is_stop came.end

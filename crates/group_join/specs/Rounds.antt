@@ -1,5 +1,5 @@
 -- What comes of joining some groups that follow one another (own, on OpenCL 1.2, 3.2).
-use Rattle.std.specs.Prelude.{ℕ}
+use Rattle.std.specs.Prelude.{ℕ, List}
 use Rattle.clmodel.specs.Launch.{Launch}
 use Rattle.group_join.specs.Ends.{EndsAs}
 use Rattle.group_join.specs.JoinedGroups.{HoldsGroups}
@@ -8,6 +8,6 @@ use Rattle.group_join.specs.declared.joined_groups.JoinEnd.TheVariants.{Continue
 use Rattle.group_join.specs.declared.joined_groups.JoinedGroups.{JoinedGroups}
 
 -- the groups below one are joined without a report, or it is known how the launch ends (own)
-abbrev pub CameOfRound : Launch → ℕ → JoinEnd JoinedGroups → Type 0
-CameOfRound launch last (Continues so_far) = HoldsGroups launch last so_far
-CameOfRound launch last (Ends ended) = EndsAs launch ended
+abbrev pub CameOfRound : Launch → List (List ℕ) → ℕ → JoinEnd JoinedGroups → Type 0
+CameOfRound launch flags last (Continues so_far) = HoldsGroups launch flags last so_far
+CameOfRound launch flags last (Ends ended) = EndsAs launch flags ended

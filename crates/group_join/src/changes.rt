@@ -21,7 +21,7 @@ use access_list::byte_of;
 use clmodel::access::{Access, AccessKind, Class, Region, Width};
 use shadow::{Footprint, GroupAccesses};
 use spaces::cells::{is_inside, read};
-use spaces::{Changes, Overlay, Space};
+use spaces::{Changes, PartOverlay, Space};
 use std::alloc::{AllocError, Global};
 
 /// The bytes of a buffer that an access of a further group wrote, and what they become once the group is joined. They
@@ -52,7 +52,7 @@ pub(crate) struct Before<'a, 'b, 's, 'o> {
     pub(crate) first: &'a [&'b [u8]],
     pub(crate) lower: &'a [Changes],
     pub(crate) footprint: &'a Footprint,
-    pub(crate) own: &'s [Overlay<'o>],
+    pub(crate) own: &'s [PartOverlay<'o>],
 }
 
 /// The number of four bytes of a row, 0 where the row ends before.
@@ -79,7 +79,12 @@ fn changed_word(row: &[u8], changes: &Changes, at: u64) -> u32
 }
 
 /// The number of an element in a space, if there is one.
-fn number_in(spaces: &[Overlay<'_>], buffer: u32, at: u64, width: Width) -> Option<u64>
+pub(crate) fn number_in(
+    spaces: &[PartOverlay<'_>],
+    buffer: u32,
+    at: u64,
+    width: Width,
+) -> Option<u64>
     ensures value { result ≡ number (cells_at (map (λ space. space.bytes) spaces.now) buffer) at (byte_count width) }
     ensures below { IfSome result (λ value. value < 256 ^ byte_count width) }
 {
@@ -93,7 +98,7 @@ fn number_in(spaces: &[Overlay<'_>], buffer: u32, at: u64, width: Width) -> Opti
 }
 
 /// The number of an element in a space, 0 where there is none.
-fn loaded(spaces: &[Overlay<'_>], number: u32, at: u64, width: Width) -> u64
+fn loaded(spaces: &[PartOverlay<'_>], number: u32, at: u64, width: Width) -> u64
     ensures value { result ≡ number_or_0 (cells_at (map (λ space. space.bytes) spaces.now) number) at (byte_count width) }
     ensures below { result < 256 ^ byte_count width }
 {
@@ -101,14 +106,14 @@ fn loaded(spaces: &[Overlay<'_>], number: u32, at: u64, width: Width) -> u64
 }
 
 /// The byte that the further group alone leaves, 0 where there is none.
-fn own_byte(own: &[Overlay<'_>], number: u32, byte: u64) -> u8
+fn own_byte(own: &[PartOverlay<'_>], number: u32, byte: u64) -> u8
     ensures { result ≡ number_or_0 (cells_at (map (λ space. space.bytes) own.now) number) byte 1 }
 {
     loaded(own, number, byte, Width::One) as u8
 }
 
 /// The n bytes that the further group alone leaves, one after another, as a number.
-fn own_by_bytes(own: &[Overlay<'_>], number: u32, first: u64, count: u64) -> u64
+fn own_by_bytes(own: &[PartOverlay<'_>], number: u32, first: u64, count: u64) -> u64
     requires short { count ≤ 8 }
     requires inside { first + count < 2 ^ 64 }
     ensures value { IsValue first count (λ byte. number_or_0 (cells_at (map (λ space. space.bytes) own.now) number) byte 1) result }
@@ -123,7 +128,7 @@ fn own_by_bytes(own: &[Overlay<'_>], number: u32, first: u64, count: u64) -> u64
 }
 
 /// The bytes of an access that the further group alone leaves, as a number.
-fn own_value(own: &[Overlay<'_>], number: u32, x: &Access) -> u64
+fn own_value(own: &[PartOverlay<'_>], number: u32, x: &Access) -> u64
     requires { x.now.first + byte_count x.now.width < 2 ^ 64 }
     ensures { AreBytes (cells_at (map (λ space. space.bytes) own.now) number) x.now.first (byte_count x.now.width) → IsValue x.now.first (byte_count x.now.width) (λ byte. number_or_0 (cells_at (map (λ space. space.bytes) own.now) number) byte 1) result }
 {
@@ -246,7 +251,11 @@ impl Before<'_, '_, '_, '_> {
 }
 
 /// Makes a change, of those of its bytes that the buffer has. An error is out of memory.
-fn make_change(first: &[&[u8]], changes: &mut [Changes], change: Change) -> Result<(), AllocError>
+pub(crate) fn make_change(
+    first: &[&[u8]],
+    changes: &mut [Changes],
+    change: Change,
+) -> Result<(), AllocError>
     ensures many { length changes.new ≡ length changes.old }
     ensures changed { OnOk result (AreChanged (all_with_changes (map (λ row. row.now) first.now) changes.old) (all_with_changes (map (λ row. row.now) first.now) changes.new) (bytes_of change)) }
 {
@@ -261,7 +270,7 @@ fn make_change(first: &[&[u8]], changes: &mut [Changes], change: Change) -> Resu
 
 /// What the bytes of a buffer that an access of the further group wrote become, as a number: the number kept of it, or
 /// else the group's own.
-fn changed_value(own: &[Overlay<'_>], number: u32, x: &Access, kept: Option<u64>) -> u64
+fn changed_value(own: &[PartOverlay<'_>], number: u32, x: &Access, kept: Option<u64>) -> u64
     requires { x.now.first + byte_count x.now.width < 2 ^ 64 }
     ensures { (value : ℕ → TheAccess → ℕ → ℕ) → joining.writes x.now.kind ≡ true → x.now.region ≡ region.Buffer number → AreBytes (cells_at (map (λ space. space.bytes) own.now) number) x.now.first (byte_count x.now.width) → IsKept value (map (λ space. space.bytes) own.now) x.now kept → IsValue x.now.first (byte_count x.now.width) (value number x.now) result }
 {
@@ -276,7 +285,7 @@ fn changed_value(own: &[Overlay<'_>], number: u32, x: &Access, kept: Option<u64>
 fn change_access(
     first: &[&[u8]],
     changes: &mut [Changes],
-    own: &[Overlay<'_>],
+    own: &[PartOverlay<'_>],
     x: &Access,
     kept: Option<u64>,
 ) -> Result<(), AllocError>
@@ -348,7 +357,7 @@ pub(crate) fn join_accesses<L: GroupAccesses>(
     changes: &mut [Changes],
     footprint: &mut Footprint,
     further: bool,
-    own: &[Overlay<'_>],
+    own: &[PartOverlay<'_>],
     log: &L,
     updates: &[JoinedUpdate],
 ) -> Result<(), AllocError>

@@ -1,14 +1,14 @@
 //! The run of one work-group, and how it ended.
 
-ghost use Rattle.std.specs.Prelude.{◌≡◌, Some, map, IfOk};
-ghost use Rattle.clmodel.specs.Next.{launch_of};
+ghost use Rattle.std.specs.Prelude.{◌≡◌, map, IfOk};
+ghost use Rattle.clmodel.specs.Cells.{held_cells};
 ghost use Rattle.item_step.specs.Launches.{setup_of};
 ghost use Rattle.group_run.specs.Results.{IsResult};
 ghost use Rattle.joining.specs.Steps.{HasGroup};
-ghost use Rattle.launches.specs.Groups.{HasGroups};
+ghost use Rattle.launches.specs.Groups.{HasGroups, launch_in};
 ghost use Rattle.access_list.specs.Log.{fresh_log};
 ghost use Rattle.group_join.specs.Launches.{is_stopped};
-ghost use Rattle.spaces.specs.Buffers.{bytes_in};
+ghost use Rattle.spaces.specs.Buffers.{bytes_in, flags_in};
 
 use access_list::AccessLog;
 use clmodel::text::Name;
@@ -16,20 +16,25 @@ use group_run::{GroupEnd, GroupResult, run_group};
 use item_step::Launch;
 use launches::LoadedLaunch;
 use launches::laws::setups_are_runnable;
-use spaces::{Buffers, Overlay};
+use spaces::{Buffers, PartOverlay};
 use std::alloc::{AllocError, Global};
 
-/// An overlay without changes for each of these names, over the bytes of its buffer. An error is out of memory.
+/// An overlay without changes for each of these names, over the bytes and the flags of its buffer. An error is out of
+/// memory.
 fn overlays_of<'a>(
     alloc: Global,
     buffers: &'a Buffers,
     names: &[Name],
-) -> Result<Vec<Overlay<'a>>, AllocError>
-    ensures { IfOk result (λ overlays. map (λ overlay. overlay.bytes) overlays.items ≡ map (λ name. map Some (bytes_in buffers.now name)) names.now) }
+) -> Result<Vec<PartOverlay<'a>>, AllocError>
+    ensures { IfOk result (λ overlays. map (λ overlay. overlay.bytes) overlays.items ≡ map (λ name. held_cells (bytes_in buffers.now name) (flags_in buffers.now name)) names.now) }
 {
     let mut overlays = Vec::with_capacity(alloc, names.len())?;
     for name in names {
-        overlays.push_reserved(Overlay::new(alloc, buffers.bytes_in(name)));
+        overlays.push_reserved(PartOverlay::new(
+            alloc,
+            buffers.bytes_in(name),
+            buffers.flags_in(name),
+        ));
     }
     Ok(overlays)
 }
@@ -43,11 +48,11 @@ pub fn one_group<'a, L: AccessLog + Drop>(
     buffers: &'a Buffers,
     group: u32,
     log: L,
-) -> Result<GroupResult<Overlay<'a>, L>, AllocError>
+) -> Result<GroupResult<PartOverlay<'a>, L>, AllocError>
     requires whole { HasGroups (setup_of launch.now) }
-    requires there { HasGroup (launch_of (setup_of launch.now) (bytes_in buffers.now)) group }
+    requires there { HasGroup (launch_in (setup_of launch.now) buffers.now) group }
     requires fresh { L.Logged.log log ≡ fresh_log (setup_of launch.now).range.uniform }
-    ensures { IfOk result (IsResult (λ overlay. overlay.bytes) L.Logged.log (launch_of (setup_of launch.now) (bytes_in buffers.now)) group) }
+    ensures { IfOk result (IsResult (λ overlay. overlay.bytes) L.Logged.log (launch_in (setup_of launch.now) buffers.now) group) }
 {
     setups_are_runnable();
     let _size = launch.group_size();
@@ -63,5 +68,6 @@ pub fn has_stopped<G, L>(came: &GroupResult<G, L>) -> bool
     match came.end {
         GroupEnd::Done(_) => false,
         GroupEnd::Stopped(_) => true,
+        GroupEnd::Unset(_, _, _) => true,
     }
 }

@@ -4,7 +4,8 @@ ghost use Rattle.group_join.specs.Laws.{JoiningLaws};
 
 use joining::{
     accesses_are_lower, accesses_are_own, bytes_are_joined, events_are_lower, events_are_own,
-    join_ends, join_reports, kept_both, kept_conflicts, lower_byte_first,
+    join_ends, join_reports, kept_both, kept_conflicts, lower_byte_first, other_stops_stay,
+    taken_crosses, unset_is_both,
 };
 
 /// All laws of joining.
@@ -21,4 +22,7 @@ pub(crate) fn laws()
     join_reports();
     join_ends();
     kept_both();
+    other_stops_stay();
+    unset_is_both();
+    taken_crosses();
 }

@@ -11,6 +11,7 @@
 #![tactic(auto)]
 
 mod changes;
+mod clearing;
 mod comparing;
 mod cutting;
 mod groups;
@@ -23,6 +24,7 @@ mod meetings;
 mod merging;
 mod rounds;
 mod run;
+mod unset_bytes;
 
 pub use groups::{has_stopped, one_group};
 pub use heap_log::{HeapLog, heap_logs_are_sent};

@@ -1,12 +1,15 @@
 //! Conflicts of a work-group's accesses with those of the lower groups.
 
-ghost use Rattle.std.specs.Prelude.{◌≡◌, ◌<◌, ◌+◌, ◌==◌, ◌&&◌, length, Some, IfOk};
+ghost use Rattle.std.specs.Prelude.{◌≡◌, ◌<◌, ◌≤◌, ◌+◌, ◌==◌, ◌&&◌, length, Some, IfSome, IfNone, IfOk};
+ghost use Rattle.clmodel.specs.Launch.{location_of};
+ghost use Rattle.clmodel.specs.declared.fault.Fault.TheVariants as fault;
 ghost use Rattle.group_join.specs.Meetings.{is_below, meeting_fault, report_at};
 
 use access_list::Entry;
+use clmodel::access::Access;
 use clmodel::fault::Fault;
 use group_run::conflict_fault;
-use launches::Described;
+use launches::{Described, location_of};
 use shadow::{GroupAccesses, Meeting};
 use std::alloc::AllocError;
 
@@ -26,6 +29,23 @@ pub(crate) struct FirstConflict {
     pub(crate) entry: Entry,
     pub(crate) meeting: Meeting,
     pub(crate) last: bool,
+}
+
+/// A first conflict, if it is of an event before this one.
+pub(crate) fn earlier(found: Option<FirstConflict>, event: u32) -> Option<FirstConflict>
+    ensures some { IfSome result (λ met. (found ≡ Some met) × (met.entry.event < event)) }
+    ensures none { IfNone result (IfSome found (λ met. event ≤ met.entry.event)) }
+{
+    match found {
+        Some(met) => {
+            if met.entry.event < event {
+                Some(met)
+            } else {
+                None
+            }
+        }
+        None => None,
+    }
 }
 
 /// Whether a fault is a conflict on a byte below this one.
@@ -65,4 +85,21 @@ pub(crate) fn report_at<D: Described>(
         }
         None => meeting_fault(launch, met),
     }
+}
+
+/// The report of an access that reads an unset byte.
+pub(crate) fn unset_fault<D: Described>(
+    launch: &D,
+    x: &Access,
+    byte: u64,
+) -> Result<Fault, AllocError>
+    ensures { IfOk result (λ told. told ≡ fault.Unset x.now.item x.now.kind (location_of (D.launch launch.now) x.now.region) byte) }
+{
+    let location = location_of(launch, x.region)?;
+    Ok(Fault::Unset {
+        item: x.item,
+        kind: x.kind,
+        location,
+        byte,
+    })
 }

@@ -1,11 +1,9 @@
 //! The join of work-groups that ran elsewhere.
 
 ghost use Rattle.std.specs.Prelude.{IfOk};
-ghost use Rattle.clmodel.specs.Next.{launch_of};
 ghost use Rattle.item_step.specs.Launches.{setup_of};
-ghost use Rattle.launches.specs.Groups.{HasGroups};
-ghost use Rattle.spaces.specs.Buffers.{bytes_in};
-ghost use Rattle.group_join.specs.Ends.{EndsAs};
+ghost use Rattle.launches.specs.Groups.{HasGroups, launch_in};
+ghost use Rattle.group_join.specs.Ends.{EndsIn};
 ghost use Rattle.group_join.specs.Launches.{AreResults};
 
 use crate::joined_groups::JoinedGroups;
@@ -15,7 +13,7 @@ use access_list::Accesses;
 use group_run::GroupResult;
 use item_step::Launch;
 use launches::group_count;
-use spaces::{Buffers, Overlay};
+use spaces::{Buffers, PartOverlay};
 use std::alloc::{AllocError, Global};
 
 /// Joins the results of a launch's work-groups in the order of the groups, to the end of its canonical run (OpenCL
@@ -25,11 +23,11 @@ pub fn merge<'a, L: Accesses + Drop>(
     alloc: Global,
     launch: &Launch<'_>,
     buffers: &'a Buffers,
-    results: Vec<GroupResult<Overlay<'a>, L>>,
+    results: Vec<GroupResult<PartOverlay<'a>, L>>,
 ) -> Result<LaunchEnd, AllocError>
     requires whole { HasGroups (setup_of launch.now) }
-    requires results { AreResults (λ overlay. overlay.bytes) L.log (launch_of (setup_of launch.now) (bytes_in buffers.now)) 0 results.items }
-    ensures { IfOk result (EndsAs (launch_of (setup_of launch.now) (bytes_in buffers.now))) }
+    requires results { AreResults (λ overlay. overlay.bytes) L.log (launch_in (setup_of launch.now) buffers.now) 0 results.items }
+    ensures { IfOk result (EndsIn (setup_of launch.now) buffers.now) }
 {
     let groups = group_count(launch);
     let so_far = JoinedGroups::new(alloc, launch, buffers)?;

@@ -2,15 +2,13 @@
 
 ghost use Rattle.std.specs.Prelude.{◌≡◌, ℕ, IfOk};
 ghost use Rattle.clmodel.specs.Launch.{Launch as TheLaunch};
-ghost use Rattle.clmodel.specs.Next.{launch_of};
 ghost use Rattle.group_run.specs.Results.{IsResult};
 ghost use Rattle.item_step.specs.Launches.{setup_of};
 ghost use Rattle.joining.specs.Steps.{HasGroup};
-ghost use Rattle.launches.specs.Groups.{HasGroups};
+ghost use Rattle.launches.specs.Groups.{HasGroups, launch_in};
 ghost use Rattle.access_list.specs.Log.{fresh_log};
-ghost use Rattle.group_join.specs.Ends.{EndsAs};
+ghost use Rattle.group_join.specs.Ends.{EndsIn};
 ghost use Rattle.group_join.specs.Launches.{heap_log, heap_listed, heap_has_last, IsShortResult};
-ghost use Rattle.spaces.specs.Buffers.{bytes_in};
 
 use crate::groups::one_group;
 use crate::heap_log::HeapLog;
@@ -20,7 +18,7 @@ use crate::laws::laws;
 use group_run::GroupResult;
 use item_step::Launch;
 use launches::{LoadedLaunch, group_count};
-use spaces::{Buffers, Overlay};
+use spaces::{Buffers, PartOverlay};
 use std::alloc::{AllocError, Global};
 use workers_draw::gate::{Gate, OpenGate};
 
@@ -32,11 +30,11 @@ fn run_one<'a, G: Gate>(
     group: u32,
     log: HeapLog,
     gate: &G,
-) -> Result<GroupResult<Overlay<'a>, HeapLog>, AllocError>
+) -> Result<GroupResult<PartOverlay<'a>, HeapLog>, AllocError>
     requires whole { HasGroups (setup_of launch.now) }
-    requires there { HasGroup (launch_of (setup_of launch.now) (bytes_in buffers.now)) group }
+    requires there { HasGroup (launch_in (setup_of launch.now) buffers.now) group }
     requires fresh { heap_log log ≡ fresh_log (setup_of launch.now).range.uniform }
-    ensures { IfOk result (IsResult (λ overlay. overlay.bytes) heap_log (launch_of (setup_of launch.now) (bytes_in buffers.now)) group) }
+    ensures { IfOk result (IsResult (λ overlay. overlay.bytes) heap_log (launch_in (setup_of launch.now) buffers.now) group) }
 {
     gate.enter(group);
     let came = one_group(alloc, launch, buffers, group, log);
@@ -45,7 +43,7 @@ fn run_one<'a, G: Gate>(
 }
 
 /// What a result's log has for other groups stands for all of its accesses. It does nothing when it runs.
-fn stands(came: &GroupResult<Overlay<'_>, HeapLog>)
+fn stands(came: &GroupResult<PartOverlay<'_>, HeapLog>)
     ensures { (launch : TheLaunch) (group : ℕ) → IsResult (λ overlay. overlay.bytes) heap_log launch group came.now → IsShortResult (λ overlay. overlay.bytes) heap_listed heap_has_last launch group came.now }
 {
     came.log.stands();
@@ -60,7 +58,7 @@ pub fn run_launch(
     buffers: &Buffers,
 ) -> Result<LaunchEnd, AllocError>
     requires { HasGroups (setup_of launch.now) }
-    ensures { IfOk result (EndsAs (launch_of (setup_of launch.now) (bytes_in buffers.now))) }
+    ensures { IfOk result (EndsIn (setup_of launch.now) buffers.now) }
 {
     run_launch_around(alloc, launch, buffers, &OpenGate)
 }
@@ -75,7 +73,7 @@ pub fn run_launch_around<G: Gate>(
     gate: &G,
 ) -> Result<LaunchEnd, AllocError>
     requires { HasGroups (setup_of launch.now) }
-    ensures { IfOk result (EndsAs (launch_of (setup_of launch.now) (bytes_in buffers.now))) }
+    ensures { IfOk result (EndsIn (setup_of launch.now) buffers.now) }
 {
     laws();
     let groups = group_count(launch);
@@ -90,5 +88,5 @@ pub fn run_launch_around<G: Gate>(
             JoinEnd::Ends(end) => return Ok(end),
         }
     }
-    Ok(LaunchEnd::Clean(so_far.into_changes()))
+    Ok(so_far.into_end())
 }

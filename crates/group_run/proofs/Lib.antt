@@ -4,3 +4,5 @@ pub mod Logs
 pub mod Stepping
 pub mod Items
 pub mod Starting
+pub mod Trying
+pub mod Stopped

@@ -2,7 +2,7 @@
 use Rattle.std.proofs.Common.{◌≡◌, ℕ, zero, suc, ◌+◌, ◌-◌, ◌*◌, ◌<◌, ◌≤◌, ◌^◌, Bool, false, Option, None, Some, List, [], ◌∷◌, length, map, replicate, refl, sym, ap, ap₂, ◌∙◌, subst, arith}
 use Rattle.std.specs.Prelude.{slice_get, slice_index, slice_index_or}
 use Rattle.std.proofs.Math.Path.{fun_ext}
-use Rattle.std.proofs.Math.Nat.{suc-mul, mul_comm, mul-le-mul_right, mul-le-mul_left, le-mul_of_pos_right}
+use Rattle.std.proofs.Math.Nat.{suc-mul, mul-le-mul_right, mul-le-mul_left}
 use Rattle.std.proofs.lemmas.List.{length-replicate, length-map}
 use Rattle.clmodel.specs.Cells.{cells_of}
 use Rattle.clmodel.specs.Launch.{Launch}
@@ -12,10 +12,10 @@ use Rattle.clmodel.specs.declared.action.Action.{Action}
 use Rattle.clmodel.specs.declared.action.Answer.{Answer}
 use Rattle.clmodel.specs.declared.access.Region.TheVariants as region
 use Rattle.clmodel.specs.declared.fault.Fault.{Fault}
-use Rattle.clmodel.proofs.Steps.{none_some, some_inj}
-use Rattle.clmodel.proofs.CellLaws.{cells_some, cells_none}
+use Rattle.clmodel.proofs.CellLaws.{cells_none}
 use Rattle.access_list.specs.Log.{Log, fresh_log}
 use Rattle.launches.specs.Objects.{SpacesHold}
+use Rattle.launches.proofs.Filled.{buffers_hold}
 use Rattle.launches.proofs.Items.{waiting_at}
 use Rattle.launches.proofs.Memory.{local_at, local_past}
 use Rattle.launches.specs.Items.{acts_of}
@@ -24,8 +24,7 @@ use Rattle.launches.specs.declared.slot.Slot.TheVariants as slot
 use Rattle.group_run.specs.Fits.{Fits}
 use Rattle.group_run.specs.Items.{acts_at}
 use Rattle.joining.specs.Parts.{IsGrouped}
-use Rattle.joining.specs.Group.{Plan, IsGroup, Reached, Reported, IsRun, plan_of}
-use Rattle.group_run.specs.Logs.{IsLogged}
+use Rattle.joining.specs.Group.{Plan, IsGroup, Reached, IsRun, plan_of}
 use Rattle.group_run.specs.Loops.{IsBrief}
 use Rattle.launches.specs.Groups.{IsRunnable, filled}
 use Rattle.group_run.specs.Results.{Leaves}
@@ -40,42 +39,6 @@ under : (a b c : ℕ) → a ≤ b → b < c → a < c
 under a b c h e = omega (arith, h, e)
 
 -- ---- the bytes
-
-head_is : {A : Type 0} (x y : A) (xs ys : List A) → x ∷ xs ≡ y ∷ ys → x ≡ y
-head_is x y xs ys h = cc
-
-tail_is : {A : Type 0} (x y : A) (xs ys : List A) → x ∷ xs ≡ y ∷ ys → xs ≡ ys
-tail_is x y xs ys h = cc
-
-not_empty : {A : Type 0} (x : A) (xs : List A) → x ∷ xs ≡ [] → ⊥
-not_empty x xs h = cc
-
-filled_at :
-    {G : Type 0} (bytes : G → List (Option ℕ)) (xs : List G) (bs : List (List ℕ)) → map bytes xs ≡ map (λ b. map Some b) bs → (n : ℕ) (x : G) → slice_get xs n ≡ Some x
-    → bytes x ≡ map Some (slice_index_or bs n [])
-filled_at bytes [] bs h n x e = absurd (none_some x e)
-filled_at bytes (y ∷ xs) [] h n x e = absurd (not_empty (bytes y) (map bytes xs) h)
-filled_at bytes (y ∷ xs) (b ∷ bs) h zero x e =
-    ap bytes (sym (some_inj y x e)) ∙ head_is (bytes y) (map Some b) (map bytes xs) (map (λ b. map Some b) bs) h
-filled_at bytes (y ∷ xs) (b ∷ bs) h (suc n) x e = filled_at bytes xs bs (tail_is (bytes y) (map Some b) (map bytes xs) (map (λ b. map Some b) bs) h) n x e
-
-past : {G : Type 0} (xs : List G) (bs : List (List ℕ)) (n : ℕ) → length xs ≡ length bs → slice_get xs n ≡ None → slice_index_or bs n [] ≡ []
-past xs [] n h e = refl
-past [] (b ∷ bs) n h e = absurd (omega (arith, h))
-past (x ∷ xs) (b ∷ bs) zero h e = absurd (none_some x (sym e))
-past (x ∷ xs) (b ∷ bs) (suc n) h e = past xs bs n (omega (arith, h)) e
-
-many_filled : {G : Type 0} (bytes : G → List (Option ℕ)) (xs : List G) (bs : List (List ℕ)) → map bytes xs ≡ map (λ b. map Some b) bs → length xs ≡ length bs
-many_filled bytes xs bs h = sym (length-map xs bytes) ∙ ap length h ∙ length-map bs (λ b. map Some b)
-
-buffers_hold : {G : Type 0} (bytes : G → List (Option ℕ)) (l : Launch) (xs : List G) → map bytes xs ≡ filled l → SpacesHold bytes l (length l.buffers) region.Buffer xs (initial l)
-buffers_hold bytes l xs h =
-    record {
-      many = many_filled bytes xs l.buffers h;
-      sized = λ n x e. ap length (filled_at bytes xs l.buffers h n x e) ∙ length-map (slice_index_or l.buffers n []) Some;
-      none = λ n e. ap length (past xs l.buffers n (many_filled bytes xs l.buffers h) e);
-      cells = λ n x e. fun_ext (λ byte. ap (λ z. cells_of z byte) (filled_at bytes xs l.buffers h n x e) ∙ cells_some (slice_index_or l.buffers n []) byte);
-    }
 
 locals_hold : (l : Launch) (group : ℕ) → SpacesHold (λ cells. cells) l (length l.local_sizes) (region.Local group) (map (λ size. replicate size None) l.local_sizes) (initial l)
 locals_hold l group =
@@ -142,7 +105,7 @@ start_fits acts bytes ro l group items globals locals log ready there writable f
     }))
 
 -- the plan as the code has it
-plan_same : (l : Launch) (group first count : ℕ) → first ≡ group * l.group_size → count ≡ l.group_size → record { launch = l; group = group; first = first; count = count } ≡ plan_of l group
+pub plan_same : (l : Launch) (group first count : ℕ) → first ≡ group * l.group_size → count ≡ l.group_size → record { launch = l; group = group; first = first; count = count } ≡ plan_of l group
 plan_same l group first count e h = ap₂ (λ f c. record { launch = l; group = group; first = f; count = c }) e h
 
 -- the group's items have numbers of 32 bits
@@ -220,8 +183,7 @@ leaves_fit acts bytes ro p items number globals locals log events s f =
       logged = f.logged;
     }
 
--- What is left where the run ends clean, and what is known where it ends with a report, by the group's plan. The code
--- has it as `q`.
+-- What is left where the run ends clean, by the group's plan. The code has it as `q`.
 module _
     {I G : Type 0} (acts : ℕ → I → List Answer → Action) (bytes : G → List (Option ℕ)) (ro : Bool) (l : Launch) (group size : ℕ) (items : List I) (number : ℕ) (globals : List G)
     (locals : List (List (Option ℕ))) (log : Log) {events other : Events} (report : Option Fault) (sized : size ≡ l.group_size) (started : List I) (many : length started ≡ size) {q : Plan}
@@ -244,17 +206,3 @@ module _
       ) in
       subst (λ z. IsRun (plan_of l group) (Leaves bytes (plan_of l group) globals log) (start l) z None) (sym told)
       (subst (λ z. IsRun z (Leaves bytes z globals log) (start l) events None) planned out)
-
-  pub stopped_result : (fault : Fault) → report ≡ Some fault → IsRun (plan_of l group) (IsLogged (plan_of l group) log) (start l) other (Some fault)
-  stopped_result fault some =
-      let r : Reported here (Fits acts bytes ro q items number globals locals log) (start l) events fault
-      = subst (IsRun here (Fits acts bytes ro q items number globals locals log) (start l) events) some ran in
-      let out : IsRun here (IsLogged here log) (start l) events (Some fault)
-      = record {
-        state = r.state;
-        runs = r.runs;
-        holds = subst (λ z. IsLogged z log events r.state) same r.holds.logged;
-        reports = r.reports;
-      } in
-      subst (λ z. IsRun (plan_of l group) (IsLogged (plan_of l group) log) (start l) z (Some fault)) (sym told)
-      (subst (λ z. IsRun z (IsLogged z log) (start l) events (Some fault)) planned out)

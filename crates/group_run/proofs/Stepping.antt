@@ -93,7 +93,7 @@ answered_there :
 answered_there s l item at op first x other ne = if_false (other == item) (s.answers item ++ answer_to op x ∷ []) (s.answers other) (ne_eqb other item ne)
 
 -- the log's entry of an access is what the launch's log gets of it
-stamped_is :
+pub stamped_is :
     (p : Plan) (log : Log) (events : Events) (s : State) (item : ℕ) (at : Region) (first : ℕ) (op : Operation) (number : ℕ) → IsLogged p log events s → group_of p.launch item ≡ p.group
     → stamped log (entry_of item at first op number) ≡ record { access = access_of p.launch s item at first op; event = number }
 stamped_is p log events s item at first op number h e =
@@ -111,7 +111,7 @@ numbered_more events item x log number e =
 numbered_release : (events : Events) (group : ℕ) (log : List Access) → numbered (reverse (events ++ Release group ∷ [])) log ≡ numbered (reverse events) log
 numbered_release events group log = ap (λ z. numbered z log) (reverse-append events (Release group ∷ []))
 
-logged_more :
+pub logged_more :
     (p : Plan) (log new : Log) (events : Events) (s : State) (item : ℕ) (at : Region) (first : ℕ) (op : Operation) (x number : ℕ) (hit : Option Hit) → number ≡ length events
     → group_of p.launch item ≡ p.group → IsLogged p log events s → IsNoted log (entry_of item at first op number) new (Ok hit)
     → IsLogged p new (events ++ Item item ∷ []) (made p.launch s item at first op x)
@@ -287,7 +287,7 @@ module _
   before = Fits acts bytes ro p items number globals locals log
 
   -- where the access lies, by the launch
-  placed_at :
+  pub placed_at :
       (events : Events) (s : State) (place : Option ℕ) → before events s → place ≡ first_byte (length (space_of bytes globals locals o)) element (size_of op)
       → byte_at p.launch (p.first + k) o element op ≡ place
   placed_at events s place f e =

@@ -6,6 +6,7 @@ pub mod Logs
 pub mod Results
 pub mod Stops
 pub mod Turns
+pub mod Tries
 pub use Rattle.launches.specs.BriefActions
 pub use Rattle.launches.specs.Groups
 pub use Rattle.launches.specs.Objects

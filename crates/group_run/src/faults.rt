@@ -4,6 +4,7 @@ ghost use Rattle.std.specs.Prelude.{◌≡◌, IfOk};
 ghost use Rattle.clmodel.specs.Launch.{location_of, region_of};
 ghost use Rattle.clmodel.specs.Law.{fault_of, conflict_fault};
 ghost use Rattle.clmodel.specs.declared.fault.Fault.TheVariants as fault;
+ghost use Rattle.joining.specs.Join.{unset_item};
 
 use clmodel::access::{AccessKind, Conflict, Object};
 use clmodel::action::Cause;
@@ -102,4 +103,14 @@ pub fn unset_fault<D: Described>(
         byte,
     };
     Ok(Box::new(alloc, fault)?)
+}
+
+/// The item that reads an unset byte, by its fault.
+pub(crate) fn unset_item(fault: &Fault) -> Option<u32>
+    ensures { result ≡ unset_item fault.now }
+{
+    match fault {
+        Fault::Unset { item, .. } => Some(*item),
+        _ => None,
+    }
 }

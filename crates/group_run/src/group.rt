@@ -16,7 +16,7 @@ ghost use Rattle.group_run.specs.Logs.{IsJudged, after_fences, conflict_of};
 
 use crate::brief_stop::BriefStop;
 use crate::faults::{self, bounds_fault, unset_fault};
-use crate::machine::{Machine, Made, Report};
+use crate::machine::{Machine, Made, Report, Tried};
 use access_list::{AccessLog, Entry, Fenced, Hit};
 use clmodel::access::{Conflict, Object, Operation};
 use clmodel::action::{Answer, Cause, Fences, Stop};
@@ -282,6 +282,34 @@ impl<'a, D: Runnable, G: Space, L: AccessLog> Machine for Group<'a, D, G, L> {
         )?;
         self.made = made;
         Ok(Made::judged(report))
+    }
+
+    fn try_access(
+        &mut self,
+        k: u32,
+        object: Object,
+        element: i64,
+        operation: Operation,
+    ) -> Result<Option<Tried>, AllocError> {
+        match object {
+            Object::Local(_) => return Ok(None),
+            Object::Buffer(_) => {}
+        }
+        let Some(first) = place(
+            self.buffers.as_slice(),
+            self.locals.as_slice(),
+            object,
+            element,
+            operation,
+        ) else {
+            return Ok(None);
+        };
+        let made = next_number(self.made)?;
+        let region = object.region(self.number);
+        let entry = Entry::of(self.first + k, region, first, operation, self.made);
+        let own = judge(self.alloc, self.launch, &mut self.log, entry)?;
+        self.made = made;
+        Ok(Some(Tried { entry, own }))
     }
 
     fn release(&mut self, fences: Fences) -> Result<(), AllocError> {

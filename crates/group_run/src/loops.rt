@@ -2,14 +2,16 @@
 
 ghost use Rattle.std.specs.Prelude.{◌≡◌, ◌<◌, ◌≤◌, ◌+◌, ℕ, Option, None, Some, IfOk, option_map};
 ghost use Rattle.std.specs.Box.{box_value};
-ghost use Rattle.clmodel.specs.Run.{State, Events, next_action, stop_of};
+ghost use Rattle.clmodel.specs.Run.{State, next_action, stop_of};
 ghost use Rattle.clmodel.specs.declared.action.Stop.{Stop};
-ghost use Rattle.joining.specs.Group.{IsGroup, Reached, IsRun};
+ghost use Rattle.joining.specs.Group.{IsGroup, Reached, Reported, IsRun};
 ghost use Rattle.group_run.specs.Loops.{IsNextAccess, Gathers, GathersAt, GathersOrReports, IsBrief, IsGathered};
 ghost use Rattle.group_run.specs.Stops.{stop_from};
+ghost use Rattle.group_run.specs.Tries.{StopsAs};
 
 use crate::brief_stop::BriefStop;
-use crate::machine::{Machine, Made, Report};
+use crate::faults::unset_item;
+use crate::machine::{Machine, Made, Report, Tried};
 use crate::runs::Runs;
 use clmodel::access::{Object, Operation};
 use clmodel::action::Stop;
@@ -175,5 +177,38 @@ pub fn run_items<M: Machine>(m: &mut M, runs: &mut Runs) -> Result<Report, Alloc
             // All items are at one stop, and it is no barrier: they have ended.
             _ => return Ok(None),
         }
+    }
+}
+
+/// Notes the access at whose unset bytes a group stopped, and its event, as if it were made, if it is one of a buffer:
+/// a lower group may have set its bytes. An error is out of memory.
+pub(crate) fn try_stop<M: Machine>(
+    m: &mut M,
+    runs: &mut Runs,
+    fault: &Fault,
+) -> Result<Option<Tried>, AllocError>
+    ghost origin: { State }
+    requires whole { IsGroup (M.plan m.old) }
+    requires stopped { Reported (M.plan m.old) (M.fits m.old) origin runs.old fault.now }
+    ensures plan_same { M.plan m.new ≡ M.plan m.old }
+    ensures tried { IfOk result (StopsAs (M.plan m.old) (M.fits m.new) origin runs.new fault.now) }
+{
+    let Some(item) = unset_item(fault) else {
+        return Ok(None);
+    };
+    let k = item - m.first();
+    match m.next(k)? {
+        BriefAction::Access {
+            object,
+            element,
+            operation,
+        } => match m.try_access(k, object, element, operation)? {
+            Some(tried) => {
+                runs.push(Event::Item(item))?;
+                Ok(Some(tried))
+            }
+            None => Ok(None),
+        },
+        _ => Ok(None),
     }
 }

@@ -10,8 +10,10 @@ ghost use Rattle.joining.specs.Group.{Plan};
 ghost use Rattle.item_step.specs.BriefActions.{action_from};
 ghost use Rattle.group_run.specs.Loops.{IsNextAccess, IsMade, judged_as};
 ghost use Rattle.group_run.specs.Stops.{stop_from};
+ghost use Rattle.group_run.specs.Tries.{IsTried};
 
 use crate::brief_stop::BriefStop;
+use access_list::Entry;
 use clmodel::access::{Object, Operation};
 use clmodel::action::{Cause, Fences, Stop};
 use clmodel::fault::Fault;
@@ -43,6 +45,14 @@ impl Made {
             Some(fault) => Made::Conflicts(fault),
         }
     }
+}
+
+/// An access that was noted as if it were made.
+#[derive(Drop)]
+pub struct Tried {
+    pub(crate) entry: Entry,
+    /// The fault of its conflict with the group's own accesses, if it has one
+    pub(crate) own: Report,
 }
 
 /// The items of a group with their memory and the log of their accesses. Items are named by their place in the group.
@@ -104,6 +114,19 @@ pub trait Machine {
         ensures ticks_kept { (j : ℕ) → ticks self.new j ≤ ticks self.old j }
         ensures ticks_less { IfOk result (λ made. made ≡ Made.Done → ticks self.new k < ticks self.old k) }
         ensures made { IfOk result (IsMade (plan self.old) (fits self.old) (fits self.new) ((plan self.old).first + k) (Access object element operation)) };
+
+    /// Notes this access, which is what an item does next, as if it were made, if it is one of a buffer and in range. An
+    /// error is out of memory, as is an event whose number has no 32 bits.
+    fn try_access(
+        &mut self,
+        k: u32,
+        object: Object,
+        element: i64,
+        operation: Operation,
+    ) -> Result<Option<Tried>, AllocError>
+        requires { k < (plan self.old).count }
+        ensures plan_same { plan self.new ≡ plan self.old }
+        ensures tried { IfOk result (IsTried (plan self.old) (fits self.old) (fits self.new) ((plan self.old).first + k) (Access object element operation)) };
 
     /// Releases all items from their barrier, which has these fences. An error is out of memory, as is an event whose
     /// number has no 32 bits.

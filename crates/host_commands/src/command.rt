@@ -15,10 +15,11 @@ use std::alloc::AllocError;
 /// A command of the host (OpenCL 1.2, chapter 5, in an order of their own).
 #[derive(Drop)]
 pub enum Command {
-    /// Makes a buffer of `size` zero bytes (section 5.2.1).
+    /// Makes a buffer of `size` bytes (section 5.2.1): zeros, or with `unset` bytes without a value (C99 6.7.8).
     Buffer {
         name: Name,
         size: u64,
+        unset: bool,
     },
     /// Writes bytes into a buffer from an offset on, in place of those that were there (section 5.2.2,
     /// clEnqueueWriteBuffer).
@@ -123,6 +124,9 @@ pub enum Refusal {
     InUse,
     /// 16: memory was refused
     OutOfMemory,
+    /// 17: a byte that is to be read is unset: the lowest one, counted from the buffer's first, and how many bytes that
+    /// are to be read are unset from there on, one behind another
+    UnsetBytes { byte: u64, count: u64 },
 }
 
 impl From<AllocError> for Refusal {

@@ -1,5 +1,5 @@
 -- Small lemmas.
-use Rattle.std.proofs.Common.{◌≡◌, ℕ, ◌+◌, ◌<◌, ◌≤◌, ◌==◌, false, Option, None, Some, sym, ap, ap₂, ◌∙◌, ◌-◌, ℤ, nat_lt, lt-ltb}
+use Rattle.std.proofs.Common.{◌≡◌, ℕ, ◌+◌, ◌<◌, ◌≤◌, ◌==◌, false, Option, None, Some, sym, ap, ap₂, ◌∙◌, ℤ, nat_lt, lt-ltb}
 use Rattle.std.proofs.lemmas.Bool.{ne_eqb}
 use Rattle.std.specs.Option.{option_map}
 use Rattle.clmodel.specs.Cells.{Cells, Outcome, found, size_of, answer_to, effect, perform}

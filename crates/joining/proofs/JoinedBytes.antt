@@ -23,7 +23,7 @@ use Rattle.joining.proofs.Joins.{So_far, three_words, three_numbers, Both, both_
 use Rattle.joining.proofs.Steps.{so_far}
 
 -- where nothing crosses, the group's run goes through after the groups below
-through : (l : Launch) (group : ℕ) (lower : Joined) (part : Part) → IsGrouped l → (far : So_far l group lower) → HasGroup l group → IsPart l group part → crossing l lower.log part.end.log ≡ None
+pub through : (l : Launch) (group : ℕ) (lower : Joined) (part : Part) → IsGrouped l → (far : So_far l group lower) → HasGroup l group → IsPart l group part → crossing l lower.log part.end.log ≡ None
     → Through l group far.a far.a part.events part.end
 through l group lower part grouped far there is none = ⊎_elim
     (λ t. t)

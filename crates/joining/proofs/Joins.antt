@@ -1,34 +1,45 @@
 -- Groups run apart and joined in order come to the canonical run of the launch.
 use Rattle.std.proofs.Common.{◌≡◌, ℕ, suc, ◌+◌, ◌-◌, ◌*◌, ◌/◌, ◌%◌, ◌<◌, ◌≤◌, Bool, true, false, Option, Some, None, refl, sym, ap, ap₂, ◌∙◌, subst, arith, ◌⊎◌, ⊎_elim, inl, inr, ◌&&◌, ◌||◌, List, [], ◌∷◌, ◌++◌, length}
-use Rattle.std.proofs.lemmas.Bool.{and_parts, and_from, true≢false, cases_eq, cond-true, cond-false, or_parts}
+use Rattle.std.proofs.lemmas.Bool.{and_parts, and_from, both_ways, true≢false, cases_eq, cond-true, cond-false, or_parts}
 use Rattle.std.proofs.Math.Path.{fun_ext}
-use Rattle.clmodel.specs.Cells.{Cells, number, byte_count, byte_of}
-use Rattle.clmodel.specs.Launch.{Launch, same_region, group_of, clash}
-use Rattle.clmodel.specs.Run.{State, Events, initial, start, or_else}
-use Rattle.clmodel.specs.Law.{Logged, newest_conflict, conflict_fault, Reports, Finishes, has_ended, RunsTo, RunsIntoFault}
+use Rattle.clmodel.specs.Cells.{Cells, Outcome, number, byte_count, byte_of, covers, size_of, reads, lowest_unset, perform}
+use Rattle.clmodel.specs.Launch.{Launch, same_region, location_of, kind_of, group_of, clash, conflict}
+use Rattle.clmodel.specs.Run.{State, Events, initial, start, next_action, access_of, accessed, step, or_else}
+use Rattle.clmodel.specs.Law.{Logged, newest_conflict, conflict_fault, Makes, Reports, Finishes, unset_turn, turn, has_ended, RunsTo, RunsIntoFault}
 use Rattle.clmodel.specs.declared.access.Access.{Access}
 use Rattle.clmodel.specs.declared.access.AccessKind.{AccessKind}
 use Rattle.clmodel.specs.declared.access.AccessKind.TheVariants as kind
 use Rattle.clmodel.specs.declared.access.Class.{Class}
+use Rattle.clmodel.specs.declared.access.Conflict as conflict_type
+use Rattle.clmodel.specs.declared.access.Operation.{Operation}
+use Rattle.clmodel.specs.declared.access.Operation.TheVariants.{Load, Store, Update, Fetch}
 use Rattle.clmodel.specs.declared.access.Region.{Region}
 use Rattle.clmodel.specs.declared.fault.Fault.{Fault}
+use Rattle.clmodel.specs.declared.fault.Fault.TheVariants as fault
+use Rattle.clmodel.specs.declared.schedule.Event.TheVariants.{Item}
 use Rattle.clmodel.proofs.CellLaws.{covers_parts, covers_from}
-use Rattle.clmodel.proofs.Steps.{none_some}
-use Rattle.clmodel.proofs.Turns.{reports_finishes}
+use Rattle.clmodel.proofs.Conflicts.{no_newest}
+use Rattle.clmodel.proofs.Ending.{makes_possible}
+use Rattle.clmodel.proofs.Steps.{none_some, map_some, region_for}
+use Rattle.clmodel.proofs.Swaps.{same_region_self}
+use Rattle.clmodel.proofs.Turns.{makes_finishes, reports_finishes, reports_inj}
 use Rattle.clmodel.proofs.Logs.{logged_append, logged_front, logged_back}
-use Rattle.std.specs.Option.{option_map}
+use Rattle.std.specs.Option.{option_map, option_and_then}
+use Rattle.std.proofs.lemmas.Option.{same_Some}
 use Rattle.joining.specs.Group.{IsGroup, turn_of, plan_of}
 use Rattle.joining.specs.Parts.{Part, ending, IsPart, AreParts, IsGrouped}
 use Rattle.joining.specs.Memory.{joined_number, writes, class_of, at_byte, wrote, class_at, joined_numbers, joined_update, joined_memory}
 use Rattle.joining.specs.Crossings.{crossing, up_to}
-use Rattle.joining.specs.Join.{Joined, nothing_yet, join_at, join, unless, join_all, Answers, JoinIsCanonical}
-use Rattle.joining.proofs.Base.{some_none, no_order}
+use Rattle.joining.specs.Join.{Joined, nothing_yet, memory_with, join_whole, join_made, unset_item, asked, stopped_access, take_up, join_stopped, join_at, join, unless, join_all, Answers, JoinIsCanonical}
+use Rattle.joining.proofs.Again.{UnsetStop, unset_stop, taken_up}
+use Rattle.joining.proofs.Base.{some_none, no_order, entry_same, item_does}
+use Rattle.joining.proofs.Begun.{Begun, StoreAt, begun_start, begun_to, begun_in}
 use Rattle.joining.proofs.Grouped.{group_is}
 use Rattle.joining.proofs.GroupTurns.{finish_parts, all_finish, newest_reports}
 use Rattle.joining.proofs.Words.{Updated, folded, joined_folds, updated_number, updated_byte, updated_old, updated_further}
 use Rattle.joining.proofs.Crossings.{BothStores, no_cross, meet}
-use Rattle.joining.proofs.Over.{OnlyStores, update_not_store, wrote_some, wrote_from, wrote_append, OnlyUpdates, some_operand, Ready, Over, ready_start, over_start}
-use Rattle.joining.proofs.Ride.{Through, Crossed, ride, newest_here, turn_here}
+use Rattle.joining.proofs.Over.{is_set, unset_some, unset_none, OnlyStores, load_not_store, update_not_store, fetch_not_store, wrote_some, wrote_from, wrote_append, OnlyUpdates, some_operand, Ready, Over, ready_start, over_start}
+use Rattle.joining.proofs.Ride.{Through, Crossed, ride, newest_here, turn_there, turn_here}
 
 -- canonical runs one after the other
 runs_append : (l : Launch) (es fs : Events) (s t u : State) → RunsTo l s es t → RunsTo l t fs u → RunsTo l s (es ++ fs) u
@@ -44,9 +55,6 @@ next_not g h k e = omega arith
 
 next_least : (g h : ℕ) → suc g ≤ h → g ≤ h
 next_least g h k = omega arith
-
-next_above : (g h : ℕ) → suc g ≤ h → g < h
-next_above g h k = omega arith
 
 here_below : (g h : ℕ) → h ≡ g → h < suc g
 here_below g h e = omega arith
@@ -69,7 +77,7 @@ ready_next l g a b u whole ready over none fin =
       answers = λ i h. over.others i (next_not g (group_of l i) h) ∙ ready.answers i (next_least g (group_of l i) h);
       local = λ h k. over.local_others h (next_not g h k) ∙ ready.local h (next_least g h k);
       global = λ h k. over.global_others h (next_not g h k) ∙ ready.global h (next_least g h k);
-      set = λ h k o byte. over.set_later h (next_above g h k) o byte ∙ ready.set h (next_least g h k) o byte;
+      set = λ p byte h. over.still p byte (ready.set p byte h);
       base = λ p byte h.
           let r = or_parts (wrote b.log p byte) (wrote a.log p byte) (sym (wrote_append b.log a.log p byte) ∙ ap (λ z. wrote z p byte) (sym over.log) ∙ h) in
           over.unchanged p byte r.0 ∙ ready.base p byte r.1;
@@ -305,32 +313,208 @@ pub record So_far (l : Launch) (g : ℕ) (lower : Joined) : Type 0 where
   pub memory : lower.memory ≡ a.memory
   pub report : lower.report ≡ None
 
+-- the joined memory is the one that is there
+pub memory_there : (l : Launch) (g : ℕ) (lower : Joined) (part : Part) (far : So_far l g lower) (t : Through l g far.a far.a part.events part.end) → memory_with l lower part ≡ t.0.memory
+memory_there l g lower part far t =
+    ap₂ (λ m z. joined_memory (initial l) m z part.end.memory part.end.log) far.memory far.log ∙ sym (memory_joined l g far.a part.end t.0 far.ready t.2 t.3)
+
+-- the access at which a group stopped is the one that it takes up
+pub stop_asked : (l : Launch) (g : ℕ) (part : Part) (f : Fault) (item : ℕ) (stop : UnsetStop (plan_of l g) part.end f item) → part.stopped ≡ Some f → unset_item f ≡ Some item
+    → stopped_access l part.end part.stopped ≡ Some (access_of l part.end item (region_for l item stop.object) stop.first stop.op)
+stop_asked l g part f item stop e k =
+    ap (stopped_access l part.end) e
+    ∙ ap (option_and_then (λ i. asked l part.end i (next_action l part.end i))) k
+    ∙ ap (asked l part.end item) stop.acts
+    ∙ ap (option_map (λ first. access_of l part.end item (region_for l item stop.object) first stop.op)) stop.placed
+
 -- one group more: a report, or the next
 abbrev pub OneMore : Launch → ℕ → Part → Joined → Option Fault → Type 0
 OneMore l g part joined None = So_far l (suc g) joined × (part.stopped ≡ None)
 OneMore l g part joined (Some f) = (end : State) × RunsIntoFault l joined.events end f
 
--- nothing crosses
+-- nothing crosses, and the group didn't stop at an unset byte
 one_through : (l : Launch) (g : ℕ) → IsGroup (plan_of l g) → (lower : Joined) (part : Part) (far : So_far l g lower) → IsPart l g part → Through l g far.a far.a part.events part.end
-    → (o : Option Fault) → part.stopped ≡ o → OneMore l g part (join_at l lower part None) o
-one_through l g whole lower part far is t None e = (
+    → (o : Option Fault) → part.stopped ≡ o → ((f : Fault) → o ≡ Some f → unset_item f ≡ None) → OneMore l g part (join_whole l lower part part.stopped) o
+one_through l g whole lower part far is t None e other = (
   record {
     a = t.0;
     ready = ready_next l g far.a part.end t.0 whole far.ready t.2 t.3 (is.1 ∙ ap ending e);
     runs = runs_append l lower.events part.events (start l) far.a t.0 far.runs t.1;
     log = ap (λ z. part.end.log ++ z) far.log ∙ sym t.2.log;
-    memory = ap₂ (λ m z. joined_memory (initial l) m z part.end.memory part.end.log) far.memory far.log ∙ sym (memory_joined l g far.a part.end t.0 far.ready t.2 t.3);
+    memory = memory_there l g lower part far t;
     report = e;
   },
   e,
 )
-one_through l g whole lower part far is t (Some f) e = (
+one_through l g whole lower part far is t (Some f) e other = (
   t.0,
   (
     runs_append l lower.events part.events (start l) far.a t.0 far.runs t.1,
-    turn_here l g far.a part.end t.0 whole far.ready t.2 t.3 (Reports f) (is.1 ∙ ap ending e) (reports_finishes f),
+    turn_here l g far.a part.end t.0 whole far.ready t.2 t.3 (Reports f) (λ k h. other k (ap Some (reports_inj f k h))) (is.1 ∙ ap ending e) (reports_finishes f),
   ),
 )
+
+-- ---- nothing crosses, and the group stopped at an unset byte
+
+reads_not_store : (op : Operation) → reads op ≡ true → kind_of op ≡ kind.Store → ⊥
+reads_not_store (Load width) r h = load_not_store h
+reads_not_store (Store width value) r h = absurd (true≢false (sym r))
+reads_not_store (Update class v) r h = update_not_store class h
+reads_not_store (Fetch op v) r h = fetch_not_store h
+
+-- the access at which it stopped
+abbrev pub at_stop : (l : Launch) (g : ℕ) (part : Part) (f : Fault) (item : ℕ) → UnsetStop (plan_of l g) part.end f item → Access
+at_stop l g part f item stop = access_of l part.end item (region_for l item stop.object) stop.first stop.op
+
+-- its unset bytes on the joined memory are those on the one that is there
+pub there_unset : (l : Launch) (g : ℕ) (lower : Joined) (part : Part) (far : So_far l g lower) (t : Through l g far.a far.a part.events part.end)
+    → (f : Fault) (item : ℕ) (stop : UnsetStop (plan_of l g) part.end f item) (o : Option ℕ)
+    → lowest_unset (memory_with l lower part (region_for l item stop.object)) stop.first (size_of stop.op) ≡ o
+    → lowest_unset (t.0.memory (region_for l item stop.object)) stop.first (size_of stop.op) ≡ o
+there_unset l g lower part far t f item stop o unset =
+    ap (λ m. lowest_unset (m (region_for l item stop.object)) stop.first (size_of stop.op)) (sym (memory_there l g lower part far t)) ∙ unset
+
+-- where its bytes are set after the groups below, one of these stored the byte at which it stopped
+pub stop_stored : (l : Launch) (g : ℕ) (part : Part) (f : Fault) (item : ℕ) (stop : UnsetStop (plan_of l g) part.end f item) (a u : State) → Begun l a → Begun l part.end → Over l g a part.end u
+    → lowest_unset (u.memory (region_for l item stop.object)) stop.first (size_of stop.op) ≡ None → StoreAt a.log (region_for l item stop.object) stop.byte
+stop_stored l g part f item stop a u below own over all = by_lower (wrote a.log p stop.byte) refl
+  where
+    p : Region
+    p = region_for l item stop.object
+
+    unset : (is_set (part.end.memory p stop.byte) ≡ false) × (stop.first ≤ stop.byte) × (stop.byte < stop.first + size_of stop.op)
+    unset = unset_some (part.end.memory p) stop.first (size_of stop.op) stop.byte stop.unset
+
+    set : is_set (u.memory p stop.byte) ≡ true
+    set = unset_none (u.memory p) stop.first (size_of stop.op) stop.byte all unset.1 unset.2
+
+    unset_first : (b : Bool) → is_set (initial l p stop.byte) ≡ b → is_set (initial l p stop.byte) ≡ false
+    unset_first false e = e
+    unset_first true e = absurd (both_ways _ unset.0 (own.set p stop.byte e))
+
+    by_lower : (b : Bool) → wrote a.log p stop.byte ≡ b → StoreAt a.log p stop.byte
+    by_lower true w = below.stored p stop.byte (unset_first (is_set (initial l p stop.byte)) refl) w
+    by_lower false w = absurd (both_ways _ unset.0 (ap is_set (sym (over.kept p stop.byte w)) ∙ set))
+
+-- so the access has a conflict with it
+pub stop_met : (l : Launch) (g : ℕ) (part : Part) (f : Fault) (item : ℕ) (stop : UnsetStop (plan_of l g) part.end f item) (log : List Access) → ((z : Access) → Logged log z → group_of l z.item ≡ g → ⊥)
+    → (y : StoreAt log (region_for l item stop.object) stop.byte) → conflict l y.0 (at_stop l g part f item stop) stop.byte ≡ None → ⊥
+stop_met l g part f item stop log apart y none =
+    ⊎_elim
+    (λ s. reads_not_store stop.op stop.reading s.2)
+    (λ c. store_left (kind_of stop.op) (subst (λ k. clash k (kind_of stop.op) ≡ None) y.2 c))
+    (meet l (at_stop l g part f item stop) y.0 p stop.byte (λ e. apart y.0 y.1 (e ∙ stop.mine)) y.3
+    (and_from (same_region p p) (covers stop.first (size_of stop.op) stop.byte) (same_region_self p) (covers_from stop.first (size_of stop.op) stop.byte unset.1 unset.2))
+    none)
+  where
+    p : Region
+    p = region_for l item stop.object
+
+    unset : (is_set (part.end.memory p stop.byte) ≡ false) × (stop.first ≤ stop.byte) × (stop.byte < stop.first + size_of stop.op)
+    unset = unset_some (part.end.memory p) stop.first (size_of stop.op) stop.byte stop.unset
+
+pub stop_crosses : (l : Launch) (g : ℕ) (part : Part) (f : Fault) (item : ℕ) (stop : UnsetStop (plan_of l g) part.end f item) (log : List Access) → ((z : Access) → Logged log z → group_of l z.item ≡ g → ⊥)
+    → StoreAt log (region_for l item stop.object) stop.byte → newest_conflict l (at_stop l g part f item stop ∷ (part.end.log ++ log)) ≡ None → ⊥
+stop_crosses l g part f item stop log apart y none =
+    stop_met l g part f item stop log apart y
+    (no_newest l (at_stop l g part f item stop) (part.end.log ++ log) none y.0 (logged_back part.end.log log y.0 y.1) stop.byte)
+
+-- the groups below are others
+below_other : (g h : ℕ) → h < g → h ≡ g → ⊥
+below_other g h k e = omega arith
+
+pub ready_apart : (l : Launch) (g : ℕ) (a : State) → Ready l g a → (z : Access) → Logged a.log z → group_of l z.item ≡ g → ⊥
+ready_apart l g a ready z there e = below_other g (group_of l z.item) (ready.lower z there).0 e
+
+-- where its bytes are set after the groups below, it makes the access
+one_made : (l : Launch) (g : ℕ) → IsGroup (plan_of l g) → (lower : Joined) (part : Part) (far : So_far l g lower) → IsPart l g part → (t : Through l g far.a far.a part.events part.end)
+    → (f : Fault) (item : ℕ) (stop : UnsetStop (plan_of l g) part.end f item)
+    → lowest_unset (t.0.memory (region_for l item stop.object)) stop.first (size_of stop.op) ≡ None
+    → OneMore l g part (join_made l lower part (at_stop l g part f item stop)) (join_made l lower part (at_stop l g part f item stop)).report
+one_made l g whole lower part far is t f item stop all = by_newest (newest_conflict l (x ∷ (part.end.log ++ lower.log))) refl
+  where
+    p : Region
+    p = region_for l item stop.object
+
+    x : Access
+    x = at_stop l g part f item stop
+
+    goes : turn l t.0 ≡ Makes (Item item)
+    goes =
+        turn_there l g far.a part.end t.0 whole far.ready t.2 t.3 (Makes (Item item))
+        (taken_up (plan_of l g) part.end f item stop t.0.memory ∙ ap (unset_turn l item (kind_of stop.op) p) all) (makes_finishes (Item item))
+
+    m : (n : State) × (step l t.0 (Item item) ≡ Some n)
+    m = makes_possible l t.0 (Item item) goes
+
+    w : (o : Outcome) × (perform stop.op (t.0.memory p) stop.first ≡ Some o) × (accessed l t.0 item p stop.first stop.op o ≡ m.0)
+    w = map_some (accessed l t.0 item p stop.first stop.op) (perform stop.op (t.0.memory p) stop.first) m.0
+        (sym (item_does l t.0 item stop.object stop.element stop.op stop.first stop.below (ap (l.next item) (t.2.mine item stop.mine) ∙ stop.acts) stop.placed) ∙ m.1)
+
+    log : m.0.log ≡ x ∷ (part.end.log ++ far.a.log)
+    log =
+        ap (λ z. z.log) (sym w.2)
+        ∙ ap₂ (λ z zs. z ∷ zs) (entry_same l part.end t.0 item p stop.first stop.op (t.2.global (group_of l item) stop.mine) (t.2.local (group_of l item) stop.mine)) t.2.log
+
+    runs : RunsTo l (start l) (lower.events ++ (part.events ++ Item item ∷ [])) m.0
+    runs =
+        runs_append l lower.events (part.events ++ Item item ∷ []) (start l) far.a m.0 far.runs
+        (runs_append l part.events (Item item ∷ []) far.a t.0 m.0 t.1 (m.0, goes, m.1, refl))
+
+    stored : StoreAt far.a.log p stop.byte
+    stored =
+        stop_stored l g part f item stop far.a t.0 (begun_to l lower.events (start l) far.a far.runs (begun_start l))
+        (begun_in (plan_of l g) part.events (start l) part.end is.0 (begun_start l)) t.2 all
+
+    by_newest : (o : Option conflict_type.Conflict) → newest_conflict l (x ∷ (part.end.log ++ lower.log)) ≡ o
+        → OneMore l g part (join_made l lower part x) (option_map (conflict_fault l) (newest_conflict l (x ∷ (part.end.log ++ lower.log))))
+    by_newest None q =
+        absurd (stop_crosses l g part f item stop far.a.log (ready_apart l g far.a far.ready) stored (ap (λ z. newest_conflict l (x ∷ (part.end.log ++ z))) (sym far.log) ∙ q))
+    by_newest (Some c) q =
+        subst (OneMore l g part (join_made l lower part x)) (sym (ap (option_map (conflict_fault l)) q))
+        (m.0, (runs, newest_reports l m.0 c (ap (newest_conflict l) (log ∙ ap (λ z. x ∷ (part.end.log ++ z)) (sym far.log)) ∙ q)))
+
+-- it takes up the access again
+one_taken : (l : Launch) (g : ℕ) → IsGroup (plan_of l g) → (lower : Joined) (part : Part) (far : So_far l g lower) → IsPart l g part → (t : Through l g far.a far.a part.events part.end)
+    → (f : Fault) (item : ℕ) (stop : UnsetStop (plan_of l g) part.end f item) (o : Option ℕ)
+    → lowest_unset (memory_with l lower part (region_for l item stop.object)) stop.first (size_of stop.op) ≡ o
+    → OneMore l g part (take_up l lower part (at_stop l g part f item stop) o) (take_up l lower part (at_stop l g part f item stop) o).report
+one_taken l g whole lower part far is t f item stop (Some byte) unset = (
+  t.0,
+  (
+    runs_append l lower.events part.events (start l) far.a t.0 far.runs t.1,
+    turn_there l g far.a part.end t.0 whole far.ready t.2 t.3 (Reports (fault.Unset item (kind_of stop.op) (location_of l (region_for l item stop.object)) byte))
+        (taken_up (plan_of l g) part.end f item stop t.0.memory
+        ∙ ap (unset_turn l item (kind_of stop.op) (region_for l item stop.object)) (there_unset l g lower part far t f item stop (Some byte) unset))
+        (reports_finishes (fault.Unset item (kind_of stop.op) (location_of l (region_for l item stop.object)) byte)),
+  ),
+)
+one_taken l g whole lower part far is t f item stop None unset =
+    one_made l g whole lower part far is t f item stop (there_unset l g lower part far t f item stop None unset)
+
+-- nothing crosses
+one_whole : (l : Launch) (g : ℕ) → IsGroup (plan_of l g) → (lower : Joined) (part : Part) (far : So_far l g lower) → IsPart l g part → Through l g far.a far.a part.events part.end
+    → OneMore l g part (join_at l lower part None) (join_at l lower part None).report
+one_whole l g whole lower part far is t = by_stopped part.stopped refl
+  where
+    Joins : Option Access → Type 0
+    Joins o = OneMore l g part (join_stopped l lower part o) (join_stopped l lower part o).report
+
+    plain : (o : Option Fault) → part.stopped ≡ o → ((f : Fault) → o ≡ Some f → unset_item f ≡ None) → Joins None
+    plain o e other = subst (OneMore l g part (join_whole l lower part part.stopped)) (sym e) (one_through l g whole lower part far is t o e other)
+
+    by_item : (f : Fault) → part.stopped ≡ Some f → (o : Option ℕ) → unset_item f ≡ o → Joins (stopped_access l part.end part.stopped)
+    by_item f e None k =
+        subst Joins (sym (ap (stopped_access l part.end) e ∙ ap (option_and_then (λ i. asked l part.end i (next_action l part.end i))) k))
+        (plain (Some f) e (λ h q. ap unset_item (sym (same_Some f h q)) ∙ k))
+    by_item f e (Some item) k =
+        let stop = unset_stop (plan_of l g) part.end f item k (is.1 ∙ ap ending e) in
+        subst Joins (sym (stop_asked l g part f item stop e k))
+        (one_taken l g whole lower part far is t f item stop (lowest_unset (memory_with l lower part (region_for l item stop.object)) stop.first (size_of stop.op)) refl)
+
+    by_stopped : (o : Option Fault) → part.stopped ≡ o → Joins (stopped_access l part.end part.stopped)
+    by_stopped None e = subst Joins (sym (ap (stopped_access l part.end) e)) (plain None e (λ f h. absurd (none_some f h)))
+    by_stopped (Some f) e = by_item f e (unset_item f) refl
 
 -- an access crosses
 one_crossed : (l : Launch) (g : ℕ) (lower : Joined) (part : Part) (far : So_far l g lower) → (c : Crossed l far.a 0 far.a part.events part.end)
@@ -349,7 +533,7 @@ pub one_more : (l : Launch) (g : ℕ) → IsGroup (plan_of l g) → (lower : Joi
 one_more l g whole lower part far is =
     ⊎_elim
     (λ t. subst (λ o. OneMore l g part (join_at l lower part o) (join_at l lower part o).report) (sym (ap (λ z. crossing l z part.end.log) far.log ∙ t.3))
-    (one_through l g whole lower part far is t part.stopped refl))
+    (one_whole l g whole lower part far is t))
     (λ c. subst (λ o. OneMore l g part (join_at l lower part o) (join_at l lower part o).report) (sym (ap (λ z. crossing l z part.end.log) far.log ∙ c.6))
     (one_crossed l g lower part far c))
     (ride l g far.a whole far.ready part.events (start l) far.a part.end (over_start l g far.a far.ready) refl is.0)

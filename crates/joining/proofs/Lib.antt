@@ -3,7 +3,9 @@ pub mod Grouped
 pub mod Words
 pub mod Crossings
 pub mod GroupTurns
+pub mod Again
 pub mod Over
+pub mod Begun
 pub mod Lifts
 pub mod Ride
 pub mod Joins
@@ -14,3 +16,6 @@ pub mod Kept
 pub mod Steps
 pub mod EventGroups
 pub mod JoinedBytes
+pub mod OtherStops
+pub mod UnsetBytes
+pub mod Taken

@@ -1,10 +1,8 @@
 -- A group's events over what the groups below left.
-use Rattle.std.proofs.Common.{◌≡◌, ℕ, suc, ◌+◌, ◌*◌, ◌<◌, ◌≤◌, Bool, true, false, cond, Option, Some, None, refl, sym, ap, ap₂, ◌∙◌, subst, arith, ⊎_elim, inl, inr, ◌&&◌, ◌||◌, eqb, leb, List, [], ◌∷◌, ◌++◌, ℤ, pos, negsuc, ◌==◌, length, slice_index_or}
-use Rattle.std.proofs.Math.Nat.{suc-mul}
-use Rattle.std.proofs.lemmas.Bool.{and_parts, and_from, true≢false, cond-false, ne_eqb, eqb-true, leb-true, or_left}
-use Rattle.std.proofs.lemmas.Option.{slice_get-get_or}
-use Rattle.clmodel.specs.Cells.{Cells, number, covers, written, updated_word, size_of, found}
-use Rattle.clmodel.specs.Launch.{Launch, same_region, region_of, bytes_of, first_byte, kind_of, group_of, conflict}
+use Rattle.std.proofs.Common.{◌≡◌, ℕ, ◌+◌, ◌*◌, ◌<◌, ◌≤◌, Bool, true, false, cond, Option, Some, None, refl, sym, ap, ap₂, ◌∙◌, subst, arith, ⊎_elim, inl, inr, ◌&&◌, ◌||◌, eqb, List, [], ◌∷◌, ◌++◌, ℤ, ◌==◌}
+use Rattle.std.proofs.lemmas.Bool.{and_parts, and_from, true≢false, cond-false, ne_eqb, eqb-true, or_left}
+use Rattle.clmodel.specs.Cells.{Cells, number, covers, written, updated_word, found}
+use Rattle.clmodel.specs.Launch.{Launch, same_region, region_of, kind_of, group_of, conflict}
 use Rattle.clmodel.specs.Run.{Memory, State, initial, byte_at, access_of, lowest, released}
 use Rattle.clmodel.specs.Law.{Logged}
 use Rattle.clmodel.specs.declared.access.Access.{Access}
@@ -19,28 +17,12 @@ use Rattle.clmodel.specs.declared.access.Region.TheVariants as region_is
 use Rattle.clmodel.specs.declared.action.Answer.TheVariants.{Done}
 use Rattle.clmodel.specs.declared.action.Fences.{Fences}
 use Rattle.clmodel.proofs.CellLaws.{covers_parts, covers_from, Aligned}
-use Rattle.clmodel.proofs.Steps.{none_some, lowest_some, lowest_none, region_for}
+use Rattle.clmodel.proofs.Steps.{lowest_some, lowest_none, region_for}
 use Rattle.clmodel.proofs.Swaps.{same_region_self, same_region-true, byte_at_aligned}
 use Rattle.joining.specs.Memory.{writes, at_byte, wrote}
 use Rattle.joining.proofs.Base.{changed_there, entry_same, made_at}
 use Rattle.joining.proofs.Words.{Updated, updated_same}
-use Rattle.joining.proofs.Over.{is_set, cond_some, performed, performed_in, performed_out, Fit, OnlyUpdates, Folds, entry_at, Ready, Over, Lift, same_answer, kept_step, unchanged_step, stored_step, older_clear, set_step, set_keeps}
-
--- a byte of a buffer that is in range is set from the start
-pub buffer_set : (l : Launch) (number : ℕ) (element : ℤ) (width first byte : ℕ) → first_byte (bytes_of l (region_is.Buffer number)) element width ≡ Some first
-    → covers first width byte ≡ true → is_set (initial l (region_is.Buffer number) byte) ≡ true
-buffer_set l number (pos e) width first byte h c =
-    let bytes : List ℕ = slice_index_or l.buffers number [] in
-    let r = cond_some (leb ((e + 1) * width) (length bytes)) (e * width) first h in
-    let p = covers_parts first width byte c in
-    ap is_set (slice_get-get_or bytes byte 0 (inside (length bytes) (leb-true ((e + 1) * width) (length bytes) r.0) r.1 p.1))
-  where
-    more : (e + 1) * width ≡ e * width + width
-    more = let s : e + 1 ≡ suc e = omega arith in ap (λ z. z * width) s ∙ suc-mul e width
-
-    inside : (size : ℕ) → (e + 1) * width ≤ size → e * width ≡ first → byte < first + width → byte < size
-    inside size h k b = omega (arith, h, k, b, more)
-buffer_set l number (negsuc e) width first byte h c = absurd (none_some first h)
+use Rattle.joining.proofs.Over.{performed, performed_in, performed_out, Fit, OnlyUpdates, Folds, entry_at, Ready, Over, Lift, same_answer, kept_step, unchanged_step, stored_step, older_clear, set_step, set_grows}
 
 -- two groups share buffers alone
 no_space : (p q : Region) → same_region p q ≡ false → p ≡ q → ⊥
@@ -136,12 +118,6 @@ folds_step c q m log i p op first x x2 n bm sm old old2 fx fx2 a only f = go (lo
         let r = lowest_some (λ k. at_byte q (m * 4 + k) (entry_at i p first op n)) 4 k is in
         folds_hit c q m log i p op first x x2 n bm sm old old2 fx fx2 a (only (entry_at i p first op n) (inl refl) k r.0 r.1) k r.0 r.1 f
 
-above : (g h : ℕ) → g < h → h ≡ g → ⊥
-above g h k e = omega arith
-
-at_least : (g h : ℕ) → g < h → g ≤ h
-at_least g h k = omega arith
-
 below_not : (g h : ℕ) → h < g → h ≡ g → ⊥
 below_not g h k e = omega arith
 
@@ -175,14 +151,8 @@ item_over l g a b s ready over i object element op first x x2 mine at fx fx2 cro
       kept = kept_step l a.log b.memory s.memory i p op first x x2 e.interval t;
       unchanged = λ q byte h. unchanged_step s.memory b.log i p op first x2 e.interval q byte h ∙ over.unchanged q byte (older_clear b.log e q byte h);
       stored = λ q byte w only. stored_step b.memory s.memory b.log i p op first x x2 e.interval q byte (over.stored q byte) w only;
-      set = λ h same o byte. set_step b.memory s.memory p op first x x2 (region_of h o) byte (over.set (group_of l i) mine object byte) (over.set h same o byte);
-      set_later = λ h k o byte. set_keeps s.memory p op first x2 (region_of h o) byte
-          (λ same c.
-          let buffer = shared_is_buffer h (group_of l i) o object (λ z. above g h k (z ∙ mine)) same in
-          ap (λ z. is_set (s.memory z byte)) (sym same) ∙ over.set_later h k o byte ∙ ready.set h (at_least g h k) o byte
-          ∙ ap (λ z. is_set (initial l z byte)) (same ∙ buffer.1)
-          ∙ buffer_set l buffer.0 element (size_of op) first byte (subst (λ z. first_byte (bytes_of l z) element (size_of op) ≡ Some first) buffer.1 at) c)
-          ∙ over.set_later h k o byte;
+      set = λ q byte h. set_step b.memory s.memory p op first x x2 q byte (over.set p byte) (over.set q byte) h;
+      still = λ q byte h. set_grows s.memory p op first x2 q byte (over.still q byte h);
       folds = λ c q m only. folds_step c q m b.log i p op first x x2 e.interval b.memory s.memory (initial l q) (a.memory q) fx fx2 aligned only
           (over.folds c q m (λ z h. only z (inr h)));
     }
@@ -203,6 +173,6 @@ release_over l g a b s over f =
       unchanged = over.unchanged;
       stored = over.stored;
       set = over.set;
-      set_later = over.set_later;
+      still = over.still;
       folds = over.folds;
     }

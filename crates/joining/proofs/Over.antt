@@ -1,9 +1,9 @@
 -- One group's run over the memory that the groups below left, beside its run on the first memory.
-use Rattle.std.proofs.Common.{◌≡◌, ℕ, zero, suc, ◌+◌, ◌-◌, ◌*◌, ◌<◌, ◌≤◌, Bool, true, false, cond, Option, Some, None, refl, sym, ap, ◌∙◌, subst, arith, ◌⊎◌, ⊎_elim, inl, inr, ◌&&◌, ◌||◌, List, [], ◌∷◌, ◌++◌}
-use Rattle.std.proofs.lemmas.Bool.{and_parts, and_from, both_ways, true≢false, cases_Bool, cond-true, or_parts, or_cases, or_left, or_right, and_cases}
+use Rattle.std.proofs.Common.{◌≡◌, ℕ, zero, suc, ◌+◌, ◌-◌, ◌*◌, ◌<◌, ◌≤◌, Bool, true, false, cond, Option, Some, None, refl, sym, ap, ◌∙◌, subst, arith, ⊎_elim, inl, inr, ◌&&◌, ◌||◌, List, [], ◌∷◌, ◌++◌}
+use Rattle.std.proofs.lemmas.Bool.{and_parts, and_from, both_ways, true≢false, cases_Bool, cases_eq, cond-true, or_parts, or_cases, or_left, or_right, and_cases}
 use Rattle.std.proofs.lemmas.Option.{same_Some}
-use Rattle.clmodel.specs.Cells.{Cells, lowest_unset, unset_or, byte_count, covers, written, byte_of, updated_word, fetched, size_of, found, answer_to, effect}
-use Rattle.clmodel.specs.Launch.{Launch, same_region, region_of, kind_of, access_in, group_of, clash, conflict}
+use Rattle.clmodel.specs.Cells.{Cells, lowest_unset, unset_or, byte_count, covers, written, byte_of, updated_word, fetched, size_of, reads, found, answer_to, effect}
+use Rattle.clmodel.specs.Launch.{Launch, same_region, kind_of, access_in, group_of, clash, conflict}
 use Rattle.clmodel.specs.Run.{Memory, State, initial, start, with_cells}
 use Rattle.clmodel.specs.Law.{Logged, newest_conflict}
 use Rattle.clmodel.specs.declared.access.Access.{Access}
@@ -11,12 +11,11 @@ use Rattle.clmodel.specs.declared.access.AccessKind.{AccessKind}
 use Rattle.clmodel.specs.declared.access.AccessKind.TheVariants as kind
 use Rattle.clmodel.specs.declared.access.Class.{Class}
 use Rattle.clmodel.specs.declared.access.FetchOp.{FetchOp}
-use Rattle.clmodel.specs.declared.access.Object.{Object}
 use Rattle.clmodel.specs.declared.access.Operation.{Operation}
 use Rattle.clmodel.specs.declared.access.Operation.TheVariants.{Load, Store, Update, Fetch}
 use Rattle.clmodel.specs.declared.access.Region.{Region}
 use Rattle.clmodel.specs.declared.access.Width.{Width}
-use Rattle.clmodel.proofs.CellLaws.{covers_parts, covers_from, written_in, effect_out, Aligned, written_out}
+use Rattle.clmodel.proofs.CellLaws.{covers_parts, covers_from, written_in, effect_out, Aligned, written_out, found_unset}
 use Rattle.clmodel.proofs.Steps.{none_some}
 use Rattle.clmodel.proofs.Swaps.{same_region_self, same_region-true}
 use Rattle.joining.specs.Memory.{writes, at_byte, wrote}
@@ -30,30 +29,84 @@ abbrev pub is_set : Option ℕ → Bool
 is_set None = false
 is_set (Some _) = true
 
-unset_or_same : (o p : Option ℕ) (first : ℕ) (rest : Option ℕ) → is_set o ≡ is_set p → unset_or o first rest ≡ unset_or p first rest
-unset_or_same None None first rest h = refl
-unset_or_same None (Some b) first rest h = absurd (true≢false (sym h))
-unset_or_same (Some a) None first rest h = absurd (true≢false h)
-unset_or_same (Some a) (Some b) first rest h = refl
+-- ---- unset bytes
 
-pub unset_same : (c d : Cells) → ((byte : ℕ) → is_set (c byte) ≡ is_set (d byte)) → (first width : ℕ) → lowest_unset c first width ≡ lowest_unset d first width
-unset_same c d same first zero = refl
-unset_same c d same first (suc width) =
-    unset_or_same (c first) (d first) first (lowest_unset c (suc first) width) (same first)
-    ∙ ap (unset_or (d first) first) (unset_same c d same (suc first) width)
+unset_parts : (o : Option ℕ) (first : ℕ) (rest : Option ℕ) → unset_or o first rest ≡ None → (is_set o ≡ true) × (rest ≡ None)
+unset_parts None first rest h = absurd (none_some first (sym h))
+unset_parts (Some a) first rest h = (refl, h)
 
-written_set : (c d : Cells) (first width v w byte : ℕ) → is_set (c byte) ≡ is_set (d byte) → is_set (written c first width v byte) ≡ is_set (written d first width w byte)
-written_set c d first width v w byte same = go (covers first width byte) refl
+-- where none of some bytes is unset, each is set
+pub unset_none : (c : Cells) (first width byte : ℕ) → lowest_unset c first width ≡ None → first ≤ byte → byte < first + width → is_set (c byte) ≡ true
+unset_none c first zero byte h from below = absurd (omega (arith, from, below))
+unset_none c first (suc width) byte h from below =
+    let r = unset_parts (c first) first (lowest_unset c (suc first) width) h in
+    ⊎_elim
+    (λ e. subst (λ z. is_set (c z) ≡ true) (sym e) r.0)
+    (λ ne. unset_none c (suc first) width byte r.1 (omega (arith, from, ne)) (omega (arith, below)))
+    (cases_eq byte first)
+
+-- the lowest unset byte is unset, and one of the bytes
+pub unset_some : (c : Cells) (first width byte : ℕ) → lowest_unset c first width ≡ Some byte → (is_set (c byte) ≡ false) × (first ≤ byte) × (byte < first + width)
+unset_some c first zero byte h = absurd (none_some byte h)
+unset_some c first (suc width) byte h = go (c first) refl h (unset_some c (suc first) width byte)
   where
-    go : (b : Bool) → covers first width byte ≡ b → is_set (written c first width v byte) ≡ is_set (written d first width w byte)
-    go true h = ap is_set (written_in c first width v byte h) ∙ sym (ap is_set (written_in d first width w byte h))
-    go false h = ap is_set (written_out c first width v byte h) ∙ same ∙ sym (ap is_set (written_out d first width w byte h))
+    go : (o : Option ℕ) → c first ≡ o → unset_or o first (lowest_unset c (suc first) width) ≡ Some byte
+        → (lowest_unset c (suc first) width ≡ Some byte → (is_set (c byte) ≡ false) × (suc first ≤ byte) × (byte < suc first + width))
+        → (is_set (c byte) ≡ false) × (first ≤ byte) × (byte < first + suc width)
+    go None e q ih =
+        let same : first ≡ byte = same_Some first byte q in
+        (subst (λ z. is_set (c z) ≡ false) same (ap is_set e), omega (arith, same), omega (arith, same))
+    go (Some a) e q ih = let r = ih q in (r.0, omega (arith, r.1), omega (arith, r.2))
 
-effect_set : (op : Operation) (x y : ℕ) (c d : Cells) (first byte : ℕ) → is_set (c byte) ≡ is_set (d byte) → is_set (effect op x c first byte) ≡ is_set (effect op y d first byte)
-effect_set (Load width) x y c d first byte same = same
-effect_set (Store width value) x y c d first byte same = written_set c d first (byte_count width) value value byte same
-effect_set (Update class operand) x y c d first byte same = written_set c d first 4 _ _ byte same
-effect_set (Fetch op operand) x y c d first byte same = written_set c d first 4 _ _ byte same
+unset_or_none : (o p : Option ℕ) (first : ℕ) (rest other : Option ℕ) → (is_set o ≡ true → is_set p ≡ true) → (rest ≡ None → other ≡ None)
+    → unset_or o first rest ≡ None → unset_or p first other ≡ None
+unset_or_none None p first rest other more further h = absurd (none_some first (sym h))
+unset_or_none (Some a) None first rest other more further h = absurd (true≢false (sym (more refl)))
+unset_or_none (Some a) (Some b) first rest other more further h = further h
+
+-- where no less is set, no more is found unset
+pub unset_further : (c d : Cells) → ((byte : ℕ) → is_set (c byte) ≡ true → is_set (d byte) ≡ true) → (first width : ℕ) → lowest_unset c first width ≡ None → lowest_unset d first width ≡ None
+unset_further c d more first zero h = refl
+unset_further c d more first (suc width) h =
+    unset_or_none (c first) (d first) first (lowest_unset c (suc first) width) (lowest_unset d (suc first) width) (more first) (unset_further c d more (suc first) width) h
+
+-- what an operation finds is set
+pub found_set : (op : Operation) (c : Cells) (first x : ℕ) → reads op ≡ true → found op c first ≡ Some x → lowest_unset c first (size_of op) ≡ None
+found_set op c first x reading finds = go (lowest_unset c first (size_of op)) refl
+  where
+    go : (o : Option ℕ) → lowest_unset c first (size_of op) ≡ o → o ≡ None
+    go None e = refl
+    go (Some byte) e = absurd (none_some x (sym (found_unset op c first byte reading e) ∙ finds))
+
+-- ---- what an operation sets
+
+written_set : (c d : Cells) (first width v w byte : ℕ) → (is_set (c byte) ≡ true → is_set (d byte) ≡ true)
+    → is_set (written c first width v byte) ≡ true → is_set (written d first width w byte) ≡ true
+written_set c d first width v w byte more set = go (covers first width byte) refl
+  where
+    go : (b : Bool) → covers first width byte ≡ b → is_set (written d first width w byte) ≡ true
+    go true h = ap is_set (written_in d first width w byte h)
+    go false h = ap is_set (written_out d first width w byte h) ∙ more (sym (ap is_set (written_out c first width v byte h)) ∙ set)
+
+effect_set : (op : Operation) (x y : ℕ) (c d : Cells) (first byte : ℕ) → (is_set (c byte) ≡ true → is_set (d byte) ≡ true)
+    → is_set (effect op x c first byte) ≡ true → is_set (effect op y d first byte) ≡ true
+effect_set (Load width) x y c d first byte more set = more set
+effect_set (Store width value) x y c d first byte more set = written_set c d first (byte_count width) value value byte more set
+effect_set (Update class operand) x y c d first byte more set = written_set c d first 4 _ _ byte more set
+effect_set (Fetch op operand) x y c d first byte more set = written_set c d first 4 _ _ byte more set
+
+written_grows : (c : Cells) (first width v byte : ℕ) → is_set (c byte) ≡ true → is_set (written c first width v byte) ≡ true
+written_grows c first width v byte set = go (covers first width byte) refl
+  where
+    go : (b : Bool) → covers first width byte ≡ b → is_set (written c first width v byte) ≡ true
+    go true h = ap is_set (written_in c first width v byte h)
+    go false h = ap is_set (written_out c first width v byte h) ∙ set
+
+effect_grows : (op : Operation) (x : ℕ) (c : Cells) (first byte : ℕ) → is_set (c byte) ≡ true → is_set (effect op x c first byte) ≡ true
+effect_grows (Load width) x c first byte set = set
+effect_grows (Store width value) x c first byte set = written_grows c first (byte_count width) value byte set
+effect_grows (Update class operand) x c first byte set = written_grows c first 4 _ byte set
+effect_grows (Fetch op operand) x c first byte set = written_grows c first 4 _ byte set
 
 written_keeps : (c : Cells) (first width v byte : ℕ) → (covers first width byte ≡ true → is_set (c byte) ≡ true) → is_set (written c first width v byte) ≡ is_set (c byte)
 written_keeps c first width v byte set = go (covers first width byte) refl
@@ -67,6 +120,13 @@ effect_keeps (Load width) x c first byte set = refl
 effect_keeps (Store width value) x c first byte set = written_keeps c first (byte_count width) value byte set
 effect_keeps (Update class operand) x c first byte set = written_keeps c first 4 _ byte set
 effect_keeps (Fetch op operand) x c first byte set = written_keeps c first 4 _ byte set
+
+-- what is written is set
+pub effect_writes : (op : Operation) (x : ℕ) (c : Cells) (first byte : ℕ) → writes (kind_of op) ≡ true → covers first (size_of op) byte ≡ true → is_set (effect op x c first byte) ≡ true
+effect_writes (Load width) x c first byte h k = absurd (true≢false (sym h))
+effect_writes (Store width value) x c first byte h k = ap is_set (written_in c first (byte_count width) value byte k)
+effect_writes (Update class operand) x c first byte h k = ap is_set (written_in c first 4 (updated_word class x operand) byte k)
+effect_writes (Fetch op operand) x c first byte h k = ap is_set (written_in c first 4 (fetched op x operand) byte k)
 
 -- an access's effect on a memory
 abbrev pub performed : Memory → Region → Operation → ℕ → ℕ → Memory
@@ -145,7 +205,7 @@ pub record Ready (l : Launch) (g : ℕ) (a : State) : Type 0 where
   pub answers : (i : ℕ) → g ≤ group_of l i → a.answers i ≡ []
   pub local : (h : ℕ) → g ≤ h → a.local_interval h ≡ 0
   pub global : (h : ℕ) → g ≤ h → a.global_interval h ≡ 0
-  pub set : (h : ℕ) → g ≤ h → (o : Object) (byte : ℕ) → is_set (a.memory (region_of h o) byte) ≡ is_set (initial l (region_of h o) byte)
+  pub set : (p : Region) (byte : ℕ) → is_set (initial l p byte) ≡ true → is_set (a.memory p byte) ≡ true
   pub base : (p : Region) (byte : ℕ) → wrote a.log p byte ≡ false → a.memory p byte ≡ initial l p byte
   pub lower : (x : Access) → Logged a.log x → (group_of l x.item < g) × Fit x
   pub newest : newest_conflict l a.log ≡ None
@@ -165,8 +225,8 @@ pub record Over (l : Launch) (g : ℕ) (a b s : State) : Type 0 where
   pub kept : (p : Region) (byte : ℕ) → wrote a.log p byte ≡ false → s.memory p byte ≡ b.memory p byte
   pub unchanged : (p : Region) (byte : ℕ) → wrote b.log p byte ≡ false → s.memory p byte ≡ a.memory p byte
   pub stored : (p : Region) (byte : ℕ) → wrote b.log p byte ≡ true → OnlyStores b.log p byte → s.memory p byte ≡ b.memory p byte
-  pub set : (h : ℕ) → h ≡ g → (o : Object) (byte : ℕ) → is_set (s.memory (region_of h o) byte) ≡ is_set (b.memory (region_of h o) byte)
-  pub set_later : (h : ℕ) → g < h → (o : Object) (byte : ℕ) → is_set (s.memory (region_of h o) byte) ≡ is_set (a.memory (region_of h o) byte)
+  pub set : (p : Region) (byte : ℕ) → is_set (b.memory p byte) ≡ true → is_set (s.memory p byte) ≡ true
+  pub still : (p : Region) (byte : ℕ) → is_set (a.memory p byte) ≡ true → is_set (s.memory p byte) ≡ true
   pub folds : (c : Class) (p : Region) (n : ℕ) → OnlyUpdates c b.log p (n * 4) → Folds c b.log p (n * 4) (initial l p) (b.memory p) (a.memory p) (s.memory p)
 
 pub ready_start : (l : Launch) → Ready l 0 (start l)
@@ -176,7 +236,7 @@ ready_start l =
       answers = λ i h. refl;
       local = λ h k. refl;
       global = λ h k. refl;
-      set = λ h k o byte. refl;
+      set = λ p byte h. h;
       base = λ p byte h. refl;
       lower = λ x h. absurd h;
       newest = refl;
@@ -200,8 +260,8 @@ over_start l g a r =
       kept = r.base;
       unchanged = λ p byte h. refl;
       stored = λ p byte h only. absurd (true≢false (sym h));
-      set = λ h k o byte. r.set h (not_less g h k) o byte;
-      set_later = λ h k o byte. refl;
+      set = r.set;
+      still = λ p byte h. h;
       folds = λ c p n only. ([], (λ k b. refl), (λ k b. refl), refl);
     }
 
@@ -230,13 +290,13 @@ fetch_clash kind.Store h c = some_none _ c
 fetch_clash (kind.Update d) h c = some_none _ c
 fetch_clash kind.Fetch h c = some_none _ c
 
-load_not_store : kind.Load ≡ kind.Store → ⊥
+pub load_not_store : kind.Load ≡ kind.Store → ⊥
 load_not_store h = grind arith
 
 pub update_not_store : (c : Class) → kind.Update c ≡ kind.Store → ⊥
 update_not_store c h = grind arith
 
-fetch_not_store : kind.Fetch ≡ kind.Store → ⊥
+pub fetch_not_store : kind.Fetch ≡ kind.Store → ⊥
 fetch_not_store h = grind arith
 
 update_clash : (k : AccessKind) (d : Class) → writes k ≡ true → clash k (kind.Update d) ≡ None → k ≡ kind.Update d
@@ -405,17 +465,29 @@ pub older_clear : (log : List Access) (e : Access) (q : Region) (byte : ℕ) →
 older_clear log e q byte h = (or_parts (writes e.kind && at_byte q byte e) (wrote log q byte) h).1
 
 -- a byte that is set in one memory is in the other
-pub set_step : (m m2 : Memory) (p : Region) (op : Operation) (first x x2 : ℕ) (q : Region) (byte : ℕ) → is_set (m2 p byte) ≡ is_set (m p byte) → is_set (m2 q byte) ≡ is_set (m q byte)
-    → is_set (performed m2 p op x2 first q byte) ≡ is_set (performed m p op x first q byte)
+pub set_step : (m m2 : Memory) (p : Region) (op : Operation) (first x x2 : ℕ) (q : Region) (byte : ℕ)
+    → (is_set (m p byte) ≡ true → is_set (m2 p byte) ≡ true) → (is_set (m q byte) ≡ true → is_set (m2 q byte) ≡ true)
+    → is_set (performed m p op x first q byte) ≡ true → is_set (performed m2 p op x2 first q byte) ≡ true
 set_step m m2 p op first x x2 q byte here there = go (same_region q p) refl
   where
-    go : (b : Bool) → same_region q p ≡ b → is_set (performed m2 p op x2 first q byte) ≡ is_set (performed m p op x first q byte)
+    go : (b : Bool) → same_region q p ≡ b → is_set (performed m p op x first q byte) ≡ true → is_set (performed m2 p op x2 first q byte) ≡ true
     go true h =
         let e : q ≡ p = same_region-true q p h in
-        subst (λ z. is_set (performed m2 p op x2 first z byte) ≡ is_set (performed m p op x first z byte)) (sym e)
-        (ap is_set (performed_in m2 p op x2 first byte) ∙ effect_set op x2 x (m2 p) (m p) first byte here ∙ sym (ap is_set (performed_in m p op x first byte)))
+        subst (λ z. is_set (performed m p op x first z byte) ≡ true → is_set (performed m2 p op x2 first z byte) ≡ true) (sym e)
+        (λ set. ap is_set (performed_in m2 p op x2 first byte) ∙ effect_set op x x2 (m p) (m2 p) first byte here (sym (ap is_set (performed_in m p op x first byte)) ∙ set))
     go false h =
-        ap (λ (f : Cells). is_set (f byte)) (with_there m2 p _ q h) ∙ there ∙ sym (ap (λ (f : Cells). is_set (f byte)) (with_there m p _ q h))
+        λ set. ap (λ (f : Cells). is_set (f byte)) (with_there m2 p _ q h) ∙ there (sym (ap (λ (f : Cells). is_set (f byte)) (with_there m p _ q h)) ∙ set)
+
+-- and what is set stays so
+pub set_grows : (m : Memory) (p : Region) (op : Operation) (first x : ℕ) (q : Region) (byte : ℕ) → is_set (m q byte) ≡ true → is_set (performed m p op x first q byte) ≡ true
+set_grows m p op first x q byte set = go (same_region q p) refl
+  where
+    go : (b : Bool) → same_region q p ≡ b → is_set (performed m p op x first q byte) ≡ true
+    go true h =
+        let e : q ≡ p = same_region-true q p h in
+        subst (λ z. is_set (performed m p op x first z byte) ≡ true) (sym e)
+        (ap is_set (performed_in m p op x first byte) ∙ effect_grows op x (m p) first byte (subst (λ z. is_set (m z byte) ≡ true) e set))
+    go false h = ap (λ (f : Cells). is_set (f byte)) (with_there m p _ q h) ∙ set
 
 pub set_keeps : (m : Memory) (p : Region) (op : Operation) (first x : ℕ) (q : Region) (byte : ℕ) → (q ≡ p → covers first (size_of op) byte ≡ true → is_set (m p byte) ≡ true)
     → is_set (performed m p op x first q byte) ≡ is_set (m q byte)

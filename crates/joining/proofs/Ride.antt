@@ -20,7 +20,8 @@ use Rattle.joining.specs.Crossings.{crossing, up_to}
 use Rattle.joining.proofs.Base.{made_at, entry_same, outcome_of, item_does, straggler_same, event_group}
 use Rattle.joining.proofs.GroupTurns.{Same, EndedBelow, turn_over, event_own}
 use Rattle.joining.proofs.Crossings.{newest_over, crossing_newest}
-use Rattle.joining.proofs.Over.{unset_same, Ready, Over}
+use Rattle.joining.proofs.Again.{over_memory, SetToo, NotUnset, makes_not_unset, turn_again}
+use Rattle.joining.proofs.Over.{unset_further, Ready, Over}
 use Rattle.joining.proofs.Lifts.{item_over, release_over}
 
 -- the group's run goes through
@@ -52,9 +53,12 @@ crossing_stays l g lower own (e ∷ es) b end r c = crossing_stays l g lower own
 not_at : (g h : ℕ) → h < g → h ≡ g → ⊥
 not_at g h k e = omega arith
 
-pub same_over : (l : Launch) (g : ℕ) (a b s : State) → Over l g a b s → Same l g b s
-same_over l g a b s over =
-    record { answers = over.mine; unset = λ object first width. unset_same _ _ (over.set g refl object) first width }
+-- the group over the memory that is there
+same_over : (l : Launch) (g : ℕ) (a b s : State) → Over l g a b s → Same l g (over_memory b s.memory) s
+same_over l g a b s over = record { answers = over.mine; unset = λ object first width. refl }
+
+set_too : (l : Launch) (g : ℕ) (a b s : State) → Over l g a b s → SetToo b.memory s.memory
+set_too l g a b s over p first count h = unset_further (b.memory p) (s.memory p) (over.set p) first count h
 
 pub below_over : (l : Launch) (g : ℕ) (a b s : State) → Ready l g a → Over l g a b s → EndedBelow l g s
 below_over l g a b s ready over i inside h = ap (λ xs. has_ended (l.next i xs)) (over.others i (not_at g (group_of l i) h)) ∙ ready.below i inside h
@@ -62,10 +66,17 @@ below_over l g a b s ready over i inside h = ap (λ xs. has_ended (l.next i xs))
 pub newest_here : (l : Launch) (g : ℕ) (a b s : State) → Ready l g a → Over l g a b s → crossing l a.log b.log ≡ None → newest_conflict l s.log ≡ newest_conflict l b.log
 newest_here l g a b s ready over none = ap (newest_conflict l) over.log ∙ newest_over l a.log b.log ready.newest none
 
--- the turn of the launch is the group's
-pub turn_here : (l : Launch) (g : ℕ) (a b s : State) → IsGroup (plan_of l g) → Ready l g a → Over l g a b s → crossing l a.log b.log ≡ None → (t : Turn) → turn_of (plan_of l g) b ≡ t → (t ≡ Finishes → ⊥) → turn l s ≡ t
-turn_here l g a b s whole ready over none t h ne =
-    turn_over (plan_of l g) whole b s (same_over l g a b s over) (below_over l g a b s ready over) (newest_here l g a b s ready over none) t h ne
+-- the turn of the launch is the group's over the memory that is there
+pub turn_there : (l : Launch) (g : ℕ) (a b s : State) → IsGroup (plan_of l g) → Ready l g a → Over l g a b s → crossing l a.log b.log ≡ None → (t : Turn)
+    → turn_of (plan_of l g) (over_memory b s.memory) ≡ t → (t ≡ Finishes → ⊥) → turn l s ≡ t
+turn_there l g a b s whole ready over none t h ne =
+    turn_over (plan_of l g) whole (over_memory b s.memory) s (same_over l g a b s over) (below_over l g a b s ready over) (newest_here l g a b s ready over none) t h ne
+
+-- and the group's own, but where that is the report of an unset byte
+pub turn_here : (l : Launch) (g : ℕ) (a b s : State) → IsGroup (plan_of l g) → Ready l g a → Over l g a b s → crossing l a.log b.log ≡ None → (t : Turn) → NotUnset t
+    → turn_of (plan_of l g) b ≡ t → (t ≡ Finishes → ⊥) → turn l s ≡ t
+turn_here l g a b s whole ready over none t not h ne =
+    turn_there l g a b s whole ready over none t (turn_again (plan_of l g) b s.memory (set_too l g a b s over) t not h) ne
 
 further_item : (l : Launch) (g : ℕ) (a b s n s2 end : State) (i : ℕ) (es : Events) → turn l s ≡ Makes (Item i) → step l s (Item i) ≡ Some s2 → length n.log ≡ suc (length b.log)
     → Rides l g a n s2 es end → Rides l g a b s (Item i ∷ es) end
@@ -152,7 +163,7 @@ event_ride l g a b s n s2 end (Release r) es ready over none mine t h k on stays
 pub ride : (l : Launch) (g : ℕ) (a : State) → IsGroup (plan_of l g) → Ready l g a → (es : Events) (b s end : State) → Over l g a b s → crossing l a.log b.log ≡ None → RunsIn (plan_of l g) b es end → Rides l g a b s es end
 ride l g a whole ready [] b s end over none r = inl (s, refl, subst (λ z. Over l g a z s) r over, subst (λ z. crossing l a.log z.log ≡ None) r none)
 ride l g a whole ready (e ∷ es) b s end over none r =
-    let t : turn l s ≡ Makes e = turn_here l g a b s whole ready over none (Makes e) r.1 (makes_finishes e) in
+    let t : turn l s ≡ Makes e = turn_here l g a b s whole ready over none (Makes e) (makes_not_unset e) r.1 (makes_finishes e) in
     let m = makes_possible l s e t in
     event_ride l g a b s r.0 m.0 end e es ready over none (event_own (plan_of l g) b e r.1).1 t m.1 r.2
     (λ o c. ride l g a whole ready es r.0 m.0 end o c r.3)

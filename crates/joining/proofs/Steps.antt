@@ -16,7 +16,7 @@ use Rattle.clmodel.proofs.Logs.{logged_append}
 use Rattle.joining.specs.Group.{RunsIn, plan_of}
 use Rattle.joining.specs.Parts.{Part, IsGrouped}
 use Rattle.joining.specs.Crossings.{crossing}
-use Rattle.joining.specs.Join.{Joined, join_at, join}
+use Rattle.joining.specs.Join.{Joined, stopped_access, join_stopped, join_at, join}
 use Rattle.joining.specs.Steps.{IsJoined, JoinReports, JoinEnds, AreOwn, AreLower}
 use Rattle.joining.proofs.Base.{event_group}
 use Rattle.joining.proofs.Grouped.{group_is}
@@ -77,12 +77,18 @@ crossing_logged l lower (y ∷ log) own x c k = go (crossing l lower log) (λ d.
     go (Some older) further d = inr (further d)
     go None further d = subst (λ z. Logged z x) (sym (map_some (λ _. y ∷ log) met own d).2) k
 
-join_logged : (l : Launch) (lower : Joined) (part : Part) (x : Access) → Logged (join l lower part).log x → Logged part.end.log x ⊎ Logged lower.log x
-join_logged l lower part x k = go (crossing l lower.log part.end.log) refl k
+join_logged : (l : Launch) (lower : Joined) (part : Part) → part.stopped ≡ None → (x : Access) → Logged (join l lower part).log x → Logged part.end.log x ⊎ Logged lower.log x
+join_logged l lower part ended x k = go (crossing l lower.log part.end.log) refl k
   where
     go : (o : Option (List Access)) → crossing l lower.log part.end.log ≡ o → Logged (join_at l lower part o).log x → Logged part.end.log x ⊎ Logged lower.log x
-    go None e h = logged_append part.end.log lower.log x h
+    go None e h = logged_append part.end.log lower.log x (subst (λ z. Logged (join_stopped l lower part z).log x) (ap (stopped_access l part.end) ended) h)
     go (Some own) e h = ⊎_elim (λ m. inl (crossing_logged l lower.log part.end.log own x e m)) (λ m. inr m) (logged_append own lower.log x h)
+
+-- a group that is joined without a report has ended
+part_ended : (l : Launch) (group : ℕ) (joined : Joined) → IsGrouped l → (h : IsJoined l (suc group) joined) → h.1.stopped ≡ None
+part_ended l group joined grouped h =
+    (subst (OneMore l group h.1 (join l h.0 h.1)) (ap (λ j. j.report) (sym h.5) ∙ h.6)
+    (one_more l group (group_is l group grouped h.3) h.0 h.1 (so_far l grouped group h.0 h.2) h.4)).1
 
 -- an access of a group below
 abbrev Lower : Launch → ℕ → Access → Type 0
@@ -99,4 +105,4 @@ accesses_are_lower l zero lower grouped h x k = absurd (subst (λ j. Logged j.lo
 accesses_are_lower l (suc group) lower grouped h x k = ⊎_elim
     (λ m. lower_own l group x (accesses_are_own l group h.1 grouped h.3 h.4 x m))
     (λ m. lower_more l group x (accesses_are_lower l group h.0 grouped h.2 x m))
-    (join_logged l h.0 h.1 x (subst (λ j. Logged j.log x) h.5 k))
+    (join_logged l h.0 h.1 (part_ended l group lower grouped h) x (subst (λ j. Logged j.log x) h.5 k))

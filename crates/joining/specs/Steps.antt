@@ -1,6 +1,6 @@
 -- The groups of a launch joined one by one, as code joins them (OpenCL 1.2, 3.2; own).
-use Rattle.std.specs.Prelude.{◌≡◌, ◌≢◌, ℕ, zero, suc, ◌*◌, ◌/◌, ◌%◌, ◌<◌, ◌≤◌, ◌⊎◌, true, false, None, Some, List, ◌++◌, Contains}
-use Rattle.clmodel.specs.Cells.{byte_of, number}
+use Rattle.std.specs.Prelude.{◌≡◌, ◌≢◌, ℕ, zero, suc, ◌*◌, ◌/◌, ◌%◌, ◌<◌, ◌≤◌, ◌⊎◌, true, false, None, Some, List, ◌∷◌, ◌++◌, Contains}
+use Rattle.clmodel.specs.Cells.{byte_count, byte_of, number, lowest_unset}
 use Rattle.clmodel.specs.Launch.{Launch, group_of, region_of, across_groups, conflict, conflict_between}
 use Rattle.clmodel.specs.Law.{Keeps, Logged, conflict_from, RunsClean, RunsIntoFault}
 use Rattle.clmodel.specs.Run.{State, initial}
@@ -8,12 +8,14 @@ use Rattle.clmodel.specs.declared.access.Access.{Access}
 use Rattle.clmodel.specs.declared.access.AccessKind.TheVariants as kind
 use Rattle.clmodel.specs.declared.access.Class.{Class}
 use Rattle.clmodel.specs.declared.access.Object.{Object}
+use Rattle.clmodel.specs.declared.access.Region.{Region}
+use Rattle.clmodel.specs.declared.access.Region.TheVariants as region
 use Rattle.clmodel.specs.declared.fault.Fault.{Fault}
 use Rattle.clmodel.specs.declared.schedule.Event.TheVariants.{Item}
 use Rattle.joining.specs.Parts.{Part, IsGrouped, IsPart}
 use Rattle.joining.specs.Memory.{writes, at_byte, wrote, joined_number, joined_memory}
 use Rattle.joining.specs.Crossings.{crossing}
-use Rattle.joining.specs.Join.{Joined, nothing_yet, join}
+use Rattle.joining.specs.Join.{Joined, nothing_yet, memory_with, join_whole, stopped_access, tried, join}
 
 -- a group of this number is one of the launch's (5.8)
 abbrev pub HasGroup : Launch → ℕ → Type 0
@@ -90,6 +92,33 @@ BytesAreJoined =
     (launch : Launch) (group : ℕ) (lower : Joined) (part : Part) → IsGrouped launch → IsJoined launch group lower → HasGroup launch group
     → IsPart launch group part → crossing launch lower.log part.end.log ≡ None
     → (x : Access) → Logged part.end.log x → writes x.kind ≡ true → (byte : ℕ) → at_byte x.region byte x ≡ true → IsJoinedByte launch lower part x byte
+
+-- Where nothing crosses, a further group that didn't stop at unset bytes of a buffer has the same report after the lower
+-- groups: no other group has its local objects (3.3, C99 6.7.8).
+abbrev pub OtherStopsStay : Type 0
+OtherStopsStay =
+    (launch : Launch) (group : ℕ) (lower : Joined) (part : Part) → IsGrouped launch → IsJoined launch group lower → HasGroup launch group
+    → IsPart launch group part → crossing launch lower.log part.end.log ≡ None
+    → ((x : Access) (number : ℕ) → stopped_access launch part.end part.stopped ≡ Some x → x.region ≡ region.Buffer number → ⊥)
+    → join launch lower part ≡ join_whole launch lower part part.stopped
+
+-- Where nothing crosses, and the access at which a further group stopped finds its bytes set on the joined memory, that
+-- access crosses, and the group is joined as one that made it (own).
+abbrev pub TakenCrosses : Type 0
+TakenCrosses =
+    (launch : Launch) (group : ℕ) (lower : Joined) (part : Part) (x : Access) → IsGrouped launch → IsJoined launch group lower → HasGroup launch group
+    → IsPart launch group part → crossing launch lower.log part.end.log ≡ None → stopped_access launch part.end part.stopped ≡ Some x
+    → lowest_unset (memory_with launch lower part x.region) x.first (byte_count x.width) ≡ None
+    → (crossing launch lower.log (tried launch part x).end.log ≡ Some (x ∷ part.end.log)) × (join launch lower part ≡ join launch lower (tried launch part x))
+
+-- Where nothing crosses, a byte of the joined memory is unset where it is so on the further group's own and on that of
+-- the lower groups (own).
+abbrev pub UnsetIsBoth : Type 0
+UnsetIsBoth =
+    (launch : Launch) (group : ℕ) (lower : Joined) (part : Part) → IsGrouped launch → IsJoined launch group lower → HasGroup launch group
+    → IsPart launch group part → crossing launch lower.log part.end.log ≡ None → (region : Region) (byte : ℕ)
+    → (memory_with launch lower part region byte ≡ None → (part.end.memory region byte ≡ None) × (lower.memory region byte ≡ None))
+    × (part.end.memory region byte ≡ None → lower.memory region byte ≡ None → memory_with launch lower part region byte ≡ None)
 
 -- an access conflicts with a log of other groups' accesses as it does with what is kept of that log (own)
 abbrev pub KeptConflicts : Type 0

@@ -8,7 +8,7 @@
 ghost use Rattle.joining.specs.Crossings.{LowerFirst};
 ghost use Rattle.joining.specs.Join.{JoinIsCanonical};
 ghost use Rattle.joining.specs.Parts.{OnePart, PartExists};
-ghost use Rattle.joining.specs.Steps.{JoinReports, JoinEnds, AreOwn, AreLower, EventsAreOwn, EventsAreLower, BytesAreJoined, KeptConflicts, KeptBoth};
+ghost use Rattle.joining.specs.Steps.{JoinReports, JoinEnds, AreOwn, AreLower, EventsAreOwn, EventsAreLower, BytesAreJoined, KeptConflicts, KeptBoth, OtherStopsStay, UnsetIsBoth, TakenCrosses};
 
 /// The groups of a launch run apart and joined, up to the first report, are its canonical run: its events, what it
 /// leaves in memory, and its report. This holds for all classes of updates, for a group that stops, and for one whose
@@ -80,4 +80,22 @@ pub fn kept_conflicts()
 /// What is kept of two logs, one after the other, keeps both.
 pub fn kept_both()
     ensures { KeptBoth }
+{}
+
+/// A group that didn't stop at unset bytes of a buffer has the same report once it is joined, if none of its accesses
+/// conflicts with the lower groups'.
+pub fn other_stops_stay()
+    ensures { OtherStopsStay }
+{}
+
+/// Where none of a further group's accesses conflicts with the lower groups', a byte of the joined memory is unset
+/// exactly where it is so after the further group alone and after the lower ones.
+pub fn unset_is_both()
+    ensures { UnsetIsBoth }
+{}
+
+/// Where none of a further group's accesses conflicts with the lower groups', but the access at which it stopped finds
+/// its bytes set on the joined memory, that access does, and the group is joined as one that made it.
+pub fn taken_crosses()
+    ensures { TakenCrosses }
 {}

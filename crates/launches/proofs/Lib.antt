@@ -5,3 +5,4 @@ pub mod Memory
 pub mod NextLaws
 pub mod ExampleLaws
 pub mod Elements
+pub mod Filled

@@ -1,9 +1,15 @@
 -- Launches of whole work-groups that a program can run (OpenCL 1.2, 3.2, 5.8).
-use Rattle.std.specs.Prelude.{◌≡◌, ℕ, ◌<◌, ◌%◌, ◌^◌, Option, Some, List, map}
+use Rattle.std.specs.Prelude.{◌≡◌, ℕ, suc, ◌<◌, ◌%◌, ◌^◌, Bool, if◌then◌else◌, Option, None, Some, List, [], ◌∷◌}
 use Rattle.clmodel.specs.Launch.{Launch}
 use Rattle.clmodel.specs.Law.{IsBounded}
-use Rattle.clmodel.specs.Next.{launch_of}
+use Rattle.clmodel.specs.Next.{launch_on}
 use Rattle.clmodel.specs.Setup.{Setup, item_count, group_items}
+use Rattle.spaces.specs.Buffers.{bytes_in, is_unset_in}
+use Rattle.spaces.specs.declared.buffers.Buffers.{Buffers}
+
+-- the launch of a setup on buffers that are found by their names (3.2, 5.8)
+abbrev pub launch_in : Setup → Buffers → Launch
+launch_in setup buffers = launch_on setup (bytes_in buffers) (is_unset_in buffers)
 
 -- a setup of whole work-groups, of items whose numbers have 32 bits, as has the budget of each (own; 5.8 asks for whole
 -- groups in each dimension)
@@ -22,8 +28,18 @@ pub record IsRunnable (launch : Launch) : Type 0 where
 
 -- a setup whose groups have items and are whole and few is runnable on any buffers (own, on 5.8)
 abbrev pub SetupsAreRunnable : Type 0
-SetupsAreRunnable = (setup : Setup) (bytes : List ℕ → List ℕ) → 0 < group_items setup.range → HasGroups setup → IsRunnable (launch_of setup bytes)
+SetupsAreRunnable = (setup : Setup) (buffers : Buffers) → 0 < group_items setup.range → HasGroups setup → IsRunnable (launch_in setup buffers)
 
--- what the buffers hold at the start, all of it set (5.2.1)
+-- what a buffer holds at the start from a byte on, where `unset` says of each whether it has no value (5.2.1, C99 6.7.8)
+abbrev pub cells_from_start : (ℕ → Bool) → ℕ → List ℕ → List (Option ℕ)
+cells_from_start unset byte [] = []
+cells_from_start unset byte (b ∷ bytes) = (if unset byte then None else Some b) ∷ cells_from_start unset (suc byte) bytes
+
+-- the same of each buffer from one on
+abbrev pub buffers_from_start : (ℕ → ℕ → Bool) → ℕ → List (List ℕ) → List (List (Option ℕ))
+buffers_from_start unset number [] = []
+buffers_from_start unset number (bytes ∷ buffers) = cells_from_start (unset number) 0 bytes ∷ buffers_from_start unset (suc number) buffers
+
+-- what the buffers hold at the start (5.2.1, C99 6.7.8)
 abbrev pub filled : Launch → List (List (Option ℕ))
-filled launch = map (λ bytes. map Some bytes) launch.buffers
+filled launch = buffers_from_start launch.unset 0 launch.buffers

@@ -1,9 +1,8 @@
 //! A launch with the buffers that hold its first bytes.
 
 ghost use Rattle.std.specs.Prelude.{◌≡◌, [], IfOk, slice_index_or};
-ghost use Rattle.clmodel.specs.Next.{launch_of};
 ghost use Rattle.item_step.specs.Launches.{setup_of, started};
-ghost use Rattle.spaces.specs.Buffers.{bytes_in};
+ghost use Rattle.launches.specs.Groups.{launch_in};
 
 use crate::described::Described;
 use crate::runnable::Runnable;
@@ -46,7 +45,7 @@ impl<'a> LoadedLaunch<'a> {
 }
 
 impl Described for LoadedLaunch<'_> {
-    ghost launch = { λ loaded. launch_of (setup_of loaded.launch.now) (bytes_in loaded.buffers.now) };
+    ghost launch = { λ loaded. launch_in (setup_of loaded.launch.now) loaded.buffers.now };
 
     fn uniform(&self) -> bool {
         self.launch.range().uniform

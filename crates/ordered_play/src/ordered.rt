@@ -1,10 +1,8 @@
 //! The ordered run of a launch.
 
 ghost use Rattle.std.specs.Prelude.{IfOk};
-ghost use Rattle.clmodel.specs.Next.{launch_of};
 ghost use Rattle.item_step.specs.Launches.{setup_of};
-ghost use Rattle.launches.specs.Groups.{HasGroups};
-ghost use Rattle.spaces.specs.Buffers.{bytes_in};
+ghost use Rattle.launches.specs.Groups.{HasGroups, launch_in};
 ghost use Rattle.ordered_play.specs.Outcomes.{IsOrderedEnd};
 
 use crate::groups::run_groups;
@@ -17,14 +15,14 @@ use launches::laws::setups_are_runnable;
 use launches::{LoadedLaunch, group_count};
 use ordered_runs::laws::report_is_reached;
 use replay::copies;
-use spaces::{Buffers, Plain};
+use spaces::{BufferMem, Buffers};
 use std::alloc::{AllocError, Global};
 
 /// How the ordered run of a launch ends (own, on OpenCL 1.2, section 6.12.11).
 #[derive(Drop)]
 pub enum OrderedEnd {
     /// With no report, after this schedule, and with this in the launch's buffers, in the order of their numbers
-    Ended(Schedule, Vec<Plain>),
+    Ended(Schedule, Vec<BufferMem>),
     /// With this report, after this schedule
     Faulted(Fault, Schedule),
 }
@@ -38,7 +36,7 @@ pub fn run_ordered(
     buffers: &Buffers,
 ) -> Result<OrderedEnd, AllocError>
     requires { HasGroups (setup_of launch.now) }
-    ensures { IfOk result (IsOrderedEnd (launch_of (setup_of launch.now) (bytes_in buffers.now))) }
+    ensures { IfOk result (IsOrderedEnd (launch_in (setup_of launch.now) buffers.now)) }
 {
     setups_are_runnable();
     report_is_reached();

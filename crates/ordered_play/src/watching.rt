@@ -15,7 +15,7 @@ use clmodel::action::Action;
 use launches::Runnable;
 use race_filter::RaceFilter;
 use replay::Player;
-use spaces::Plain;
+use spaces::BufferMem;
 use std::alloc::{AllocError, Global};
 
 /// A launch as it is played, with what its accesses so far have in common: by that most of them need no search.
@@ -32,7 +32,7 @@ impl<'a, D: Runnable> Watched<'a, D> {
         alloc: Global,
         launch: &'a D,
         groups: u32,
-        buffers: Vec<Plain>,
+        buffers: Vec<BufferMem>,
     ) -> Result<Self, AllocError>
         requires runnable { IsRunnable (D.launch launch.now) }
         requires counted { groups * (D.launch launch.now).group_size ≡ (D.launch launch.now).items }
@@ -85,7 +85,7 @@ impl<'a, D: Runnable> Watched<'a, D> {
     }
 
     /// What its buffers hold now, in the order of their numbers (OpenCL 1.2, section 3.3).
-    pub fn into_buffers(self) -> Vec<Plain>
+    pub fn into_buffers(self) -> Vec<BufferMem>
         ensures { (launch : Launch) (started : ℕ → Running) (state : State) → IsWatched D.launch D.started launch started self.entry state → SpacesHold (λ b. b) launch (length launch.buffers) region.Buffer result.items state.memory }
     {
         let Watched { player, filter } = self;

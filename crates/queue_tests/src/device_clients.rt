@@ -42,6 +42,7 @@ impl Questions<Command, Reply> for Device {
             0 => Command::Buffer {
                 name: buffer,
                 size: 4,
+                unset: false,
             },
             1 => Command::Write {
                 buffer,
@@ -141,7 +142,7 @@ fn sixteen<W: Threads + Wait + Sync>(
     let (reports, driver) = serve(rt, alloc, &queue, numbered, driver)?;
     let counts = counted(alloc, Ok(reports), 0, 4096);
     let device = close(rt, queue, Vec::new(alloc), driver);
-    let buffers = device.buffers().len();
+    let buffers = device.buffers().bytes.len();
     let written = written(alloc, device.buffers());
     drop(device);
     let (exact, full) = counts?;

@@ -1,12 +1,10 @@
 //! A launch on one thread: an item of it, its groups apart and merged, the whole, and its schedule played.
 ghost use Rattle.std.specs.Prelude.{◌≡◌, ◌*◌, ◌<◌, IfOk};
-ghost use Rattle.clmodel.specs.Next.{launch_of};
 ghost use Rattle.clmodel.specs.Setup.{item_count, group_items};
 ghost use Rattle.item_step.specs.Launches.{setup_of};
-ghost use Rattle.launches.specs.Groups.{HasGroups};
+ghost use Rattle.launches.specs.Groups.{HasGroups, launch_in};
 ghost use Rattle.access_list.specs.ListLogs.{list_log};
 ghost use Rattle.group_join.specs.Launches.{AreResults};
-ghost use Rattle.spaces.specs.Buffers.{bytes_in};
 
 use crate::came::{Came, done_if, is_done, refuse_all, refuse_none};
 use access_list::ListLog;
@@ -17,11 +15,11 @@ use group_run::GroupResult;
 use item_step::{Item, Launch};
 use launches::group_count;
 use replay::replay;
-use spaces::{Buffers, Overlay};
+use spaces::{Buffers, PartOverlay};
 use std::alloc::{AllocError, Global};
 
 /// Results of groups, their accesses in lists.
-type Results<'a> = Vec<GroupResult<Overlay<'a>, ListLog>>;
+type Results<'a> = Vec<GroupResult<PartOverlay<'a>, ListLog>>;
 
 /// Whether a launch came to the fault of group 1.
 fn is_fault(end: &LaunchEnd) -> bool {
@@ -78,7 +76,7 @@ fn results_of<'a>(
     requires whole { HasGroups (setup_of launch.now) }
     requires some { 0 < group_items (setup_of launch.now).range }
     requires count { groups * group_items (setup_of launch.now).range ≡ item_count (setup_of launch.now).range }
-    ensures { IfOk result (λ results. AreResults (λ overlay. overlay.bytes) list_log (launch_of (setup_of launch.now) (bytes_in buffers.now)) 0 results.items) }
+    ensures { IfOk result (λ results. AreResults (λ overlay. overlay.bytes) list_log (launch_in (setup_of launch.now) buffers.now) 0 results.items) }
 {
     let mut results = Vec::new(alloc);
     for group in 0..groups {
@@ -102,7 +100,7 @@ fn try_merge<R: Print>(
     results: Results<'_>,
 ) -> bool
     requires whole { HasGroups (setup_of launch.now) }
-    requires results { AreResults (λ overlay. overlay.bytes) list_log (launch_of (setup_of launch.now) (bytes_in buffers.now)) 0 results.items }
+    requires results { AreResults (λ overlay. overlay.bytes) list_log (launch_in (setup_of launch.now) buffers.now) 0 results.items }
 {
     let came = ran(merge(alloc, launch, buffers, results));
     is_done(rt, "launches merge", came)

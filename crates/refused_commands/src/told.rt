@@ -89,6 +89,12 @@ pub enum RefusalReason {
         count: u64,
         bytes: u64,
     },
+    /// A byte of a buffer is unset, which is the lowest one that a read was to read. This made the buffer.
+    ByteUnset {
+        name: String,
+        byte: u64,
+        made: Option<MadeName>,
+    },
     /// Two ranges of a buffer share bytes.
     Overlapping {
         name: String,

@@ -186,6 +186,24 @@ fn outside_words(
     )
 }
 
+/// A byte that nobody has set.
+fn unset_words(
+    alloc: Global,
+    name: &str,
+    byte: u64,
+    made: &Option<MadeName>,
+) -> Result<String, AllocError> {
+    match made {
+        Some(made) => {
+            let line = made.script_line;
+            format!(in alloc;
+                "byte {byte} of buffer {name} is unset: no command and no launch has left a value there since line {line}"
+            )
+        }
+        None => format!(in alloc; "byte {byte} of buffer {name} is unset"),
+    }
+}
+
 /// Two ranges that share bytes.
 fn overlap_words(
     alloc: Global,
@@ -286,6 +304,9 @@ pub(crate) fn words_of(alloc: Global, reason: &RefusalReason) -> Result<String, 
             count,
             bytes,
         } => outside_words(alloc, name.as_str(), *offset, *count, *bytes),
+        RefusalReason::ByteUnset { name, byte, made } => {
+            unset_words(alloc, name.as_str(), *byte, made)
+        }
         RefusalReason::Overlapping {
             name,
             offset,

@@ -2,7 +2,7 @@
 use Rattle.std.proofs.Common.{◌≡◌, ℕ, zero, suc, ◌*◌, inr, Option, None, Some, List, [], ◌∷◌, length, map, replicate, refl, sym, ap, ◌∙◌, subst, arith}
 use Rattle.std.specs.Prelude.{slice_get, slice_index_or, All}
 use Rattle.std.proofs.Math.Path.{fun_ext}
-use Rattle.std.proofs.lemmas.List.{length-map, length-replicate}
+use Rattle.std.proofs.lemmas.List.{map-id, length-replicate}
 use Rattle.std.proofs.lemmas.Option.{slice_get_within, get_or_from_slice_get}
 use Rattle.clmodel.specs.Cells.{cells_of}
 use Rattle.clmodel.specs.Launch.{Launch}
@@ -11,6 +11,7 @@ use Rattle.clmodel.specs.declared.access.Region.TheVariants as region
 use Rattle.clmodel.proofs.Steps.{none_some, some_inj}
 use Rattle.clmodel.proofs.CellLaws.{cells_some}
 use Rattle.launches.specs.Objects.{SpacesHold}
+use Rattle.launches.proofs.Filled as launches
 use Rattle.launches.proofs.Items.{waiting_at}
 use Rattle.item_step.specs.Running.{Running}
 use Rattle.launches.specs.Items.{acts_of}
@@ -22,24 +23,8 @@ use Rattle.replay.proofs.Running.{none_runs}
 
 -- ---- the buffers
 
-filled_at : (bs : List (List ℕ)) (n : ℕ) (x : List (Option ℕ)) → slice_get (map (λ b. map Some b) bs) n ≡ Some x → x ≡ map Some (slice_index_or bs n [])
-filled_at [] n x e = absurd (none_some x e)
-filled_at (b ∷ bs) zero x e = sym (some_inj (map Some b) x e)
-filled_at (b ∷ bs) (suc n) x e = filled_at bs n x e
-
-past : (bs : List (List ℕ)) (n : ℕ) → ◌≡◌ {A = Option (List (Option ℕ))} (slice_get (map (λ b. map Some b) bs) n) None → slice_index_or bs n [] ≡ []
-past [] n e = refl
-past (b ∷ bs) zero e = absurd (none_some (map Some b) (sym e))
-past (b ∷ bs) (suc n) e = past bs n e
-
 pub buffers_hold : (l : Launch) → SpacesHold (λ b. b) l (length l.buffers) region.Buffer (filled l) (initial l)
-buffers_hold l =
-    record {
-      many = length-map l.buffers (λ b. map Some b);
-      sized = λ n x e. ap length (filled_at l.buffers n x e) ∙ length-map (slice_index_or l.buffers n []) Some;
-      none = λ n e. ap length (past l.buffers n e);
-      cells = λ n x e. fun_ext (λ byte. ap (λ z. cells_of z byte) (filled_at l.buffers n x e) ∙ cells_some (slice_index_or l.buffers n []) byte);
-    }
+buffers_hold l = launches.buffers_hold (λ b. b) l (filled l) (map-id (filled l))
 
 -- ---- the items and the groups
 

@@ -11,7 +11,7 @@ ghost use Rattle.replay.specs.States.{LocalsHold, IsNew, IsPerformed, passed};
 use clmodel::access::{Access, Object, Operation};
 use clmodel::action::{Answer, Fences};
 use launches::objects::{local_objects, perform_on, size_of};
-use spaces::{LocalMem, Plain, Space, SpaceFault, first_byte};
+use spaces::{BufferMem, LocalMem, Space, SpaceFault, first_byte};
 use std::alloc::{AllocError, Global};
 
 /// The local objects of a work-group, none before the first access of one of its items, and its intervals (OpenCL 1.2,
@@ -32,7 +32,7 @@ pub struct Performed {
 
 /// The first byte of an element of an object, or `None` where the element is out of range.
 fn place(
-    buffers: &[Plain],
+    buffers: &[BufferMem],
     locals: &[LocalMem],
     object: Object,
     element: i64,
@@ -48,7 +48,7 @@ fn place(
 /// Does an operation on an element of an object, or answers `None` where it isn't possible: the element is out of
 /// range, or a byte that is read is unset. An error is out of memory.
 fn perform(
-    buffers: &mut Vec<Plain>,
+    buffers: &mut Vec<BufferMem>,
     locals: &mut Vec<LocalMem>,
     object: Object,
     element: i64,
@@ -149,7 +149,7 @@ impl Group {
         &mut self,
         alloc: Global,
         sizes: &[u64],
-        buffers: &mut Vec<Plain>,
+        buffers: &mut Vec<BufferMem>,
         object: Object,
         element: i64,
         operation: Operation,
@@ -211,7 +211,7 @@ impl Group {
     /// one is unset. A local object that isn't made yet is unset.
     pub fn unset_byte(
         &self,
-        buffers: &[Plain],
+        buffers: &[BufferMem],
         object: Object,
         first: u64,
         operation: Operation,
@@ -235,7 +235,7 @@ impl Group {
     /// they are all set. A local object that isn't made yet is unset.
     pub fn number_at(
         &self,
-        buffers: &[Plain],
+        buffers: &[BufferMem],
         object: Object,
         first: u64,
         operation: Operation,

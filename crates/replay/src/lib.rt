@@ -24,11 +24,9 @@
 ghost use Rattle.std.specs.Prelude.{IfOk};
 ghost use Rattle.std.specs.Bool.{Decides};
 ghost use Rattle.clmodel.specs.Law.{Reaches};
-ghost use Rattle.clmodel.specs.Next.{launch_of};
 ghost use Rattle.clmodel.specs.Outcome.{events_of};
 ghost use Rattle.item_step.specs.Launches.{setup_of};
-ghost use Rattle.launches.specs.Groups.{HasGroups};
-ghost use Rattle.spaces.specs.Buffers.{bytes_in};
+ghost use Rattle.launches.specs.Groups.{HasGroups, launch_in};
 
 mod buffers;
 mod conflicts;
@@ -69,7 +67,7 @@ pub fn replay(
     fault: &Fault,
 ) -> Result<bool, AllocError>
     requires { HasGroups (setup_of launch.now) }
-    ensures { IfOk result (λ yes. Decides yes (Reaches (launch_of (setup_of launch.now) (bytes_in buffers.now)) (events_of schedule.now) fault.now)) }
+    ensures { IfOk result (λ yes. Decides yes (Reaches (launch_in (setup_of launch.now) buffers.now) (events_of schedule.now) fault.now)) }
 {
     setups_are_runnable();
     let loaded = LoadedLaunch::new(alloc, launch, buffers);

@@ -23,7 +23,7 @@ use clmodel::action::{Action, Fences, Stop};
 use clmodel::schedule::Event;
 use clnum::Value;
 use launches::{Runnable, Slot, waiting_items};
-use spaces::{Plain, Space, first_byte};
+use spaces::{BufferMem, Space, first_byte};
 use std::alloc::{AllocError, Global};
 
 /// A launch as it is played: its items, one memory that they share, and the accesses so far, the oldest first.
@@ -32,7 +32,7 @@ pub struct Player<'a, D> {
     alloc: Global,
     launch: &'a D,
     items: Vec<Slot<'a>>,
-    buffers: Vec<Plain>,
+    buffers: Vec<BufferMem>,
     groups: Vec<Group>,
     log: Vec<Access>,
 }
@@ -44,7 +44,7 @@ impl<'a, D: Runnable> Player<'a, D> {
         alloc: Global,
         launch: &'a D,
         groups: u32,
-        buffers: Vec<Plain>,
+        buffers: Vec<BufferMem>,
     ) -> Result<Self, AllocError>
         requires runnable { IsRunnable (D.launch launch.now) }
         requires counted { groups * (D.launch launch.now).group_size ≡ (D.launch launch.now).items }
@@ -305,7 +305,7 @@ impl<'a, D: Runnable> Player<'a, D> {
     }
 
     /// What its buffers hold now, in the order of their numbers (OpenCL 1.2, section 3.3).
-    pub fn into_buffers(self) -> Vec<Plain>
+    pub fn into_buffers(self) -> Vec<BufferMem>
         ensures { (launch : Launch) (started : ℕ → Running) (state : State) → IsAt D.launch D.started launch started self.entry state → SpacesHold (λ b. b) launch (length launch.buffers) region.Buffer result.items state.memory }
     {
         self.buffers

@@ -73,6 +73,12 @@ module _ (w : Freedom) (launch : Launch) (buffers : List (List ℕ)) (next : ℕ
       self None = tt
       self (Some x) = refl
 
+  -- a byte that is unset in one launch is in the other
+  first_cell : (unset free : Bool) (xs ys : List ℕ) (byte : ℕ) → AlikeBytes free xs ys
+      → AlikeCells free (if unset then None else slice_get xs byte) (if unset then None else slice_get ys byte)
+  first_cell true free xs ys byte h = tt
+  first_cell false free xs ys byte h = byte_cell free xs ys byte h
+
   pub start_alike : AlikeStates w launch (start launch) (start other)
   start_alike =
       record {
@@ -84,7 +90,7 @@ module _ (w : Freedom) (launch : Launch) (buffers : List (List ℕ)) (next : ℕ
       }
     where
       holds : (r : Region) → AlikeAll (is_free_region w r) ((start launch).memory r) ((start other).memory r)
-      holds (region.Buffer number) byte = byte_cell (w.buffers number) _ _ byte (alike.bytes number)
+      holds (region.Buffer number) byte = first_cell (launch.unset number byte) (w.buffers number) _ _ byte (alike.bytes number)
       holds (region.Local group number) byte = tt
 
   module _ (s t : State) (same : AlikeStates w launch s t) where

@@ -23,7 +23,7 @@ abbrev pub on_others : Launch → List (List ℕ) → (ℕ → List Answer → A
 on_others launch buffers next = record launch { buffers = buffers; next = next }
 
 -- A launch and what another like it has: buffers of the same sizes, with the same bytes but where they may differ, and
--- items that make like actions.
+-- items that make like actions. The bytes that are unset at the start are the same ones.
 pub record IsAlike (w : Freedom) (launch : Launch) (buffers : List (List ℕ)) (next : ℕ → List Answer → Action) : Type 0 where
   pub uniform : w.uniform ≡ launch.uniform
   pub many : length launch.buffers ≡ length buffers

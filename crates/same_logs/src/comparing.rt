@@ -18,7 +18,7 @@ use group_run::GroupResult;
 use item_step::Launch;
 use launch_facts::Gathered;
 use page_log::PageLog;
-use spaces::{Buffers, Overlay};
+use spaces::{Buffers, PartOverlay};
 use std::alloc::{AllocError, Global};
 
 /// What a launch comes to with one log, as far as it is compared.
@@ -89,7 +89,7 @@ fn tell_log<L: Accesses>(
 /// Tells the accesses of the logs of results.
 fn tell_logs<L: Accesses>(
     alloc: Global,
-    results: &[GroupResult<Overlay<'_>, L>],
+    results: &[GroupResult<PartOverlay<'_>, L>],
     report: &mut LaunchReport,
 ) -> Result<(), AllocError> {
     for came in results {
@@ -101,7 +101,7 @@ fn tell_logs<L: Accesses>(
 /// Tells the results of groups that ran apart with logs that are lists.
 fn tell_groups<L: Accesses>(
     alloc: Global,
-    results: &[GroupResult<Overlay<'_>, L>],
+    results: &[GroupResult<PartOverlay<'_>, L>],
     report: &mut LaunchReport,
 ) -> Result<(), NotRun> {
     tell_results(results, &mut report.groups)?;

@@ -98,8 +98,8 @@ fn add_buffer(
     bytes: &[u8],
 ) -> Result<(), AllocError> {
     let name = Name::copy_of(alloc, &[name])?;
-    if buffers.get(&name).is_none() {
-        buffers.insert(name, Bytes::copy_of(alloc, bytes)?)?;
+    if buffers.bytes.get(&name).is_none() {
+        buffers.bytes.insert(name, Bytes::copy_of(alloc, bytes)?)?;
     }
     Ok(())
 }

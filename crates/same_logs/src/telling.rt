@@ -4,18 +4,17 @@
 use byte_io::pieces::{Piece, write_pieces};
 use byte_io::{Write, WriteFailed};
 use clmodel::access::Width;
-use clmodel::outcome::Outcome;
+use clmodel::outcome::{Contents, Outcome};
 use clmodel::schedule::{EventRun, Schedule};
-use clmodel::text::Bytes;
 use group_run::{GroupEnd, GroupResult};
 use launch_facts::Gathered;
-use spaces::{Overlay, Space};
+use spaces::{PartOverlay, Space};
 
 /// The hexadecimal digits, each at the place of its value.
 const DIGITS: [u8; 16] = *b"0123456789abcdef";
 
-/// Writes what a group's buffer holds: its bytes as they are.
-fn tell_space(space: &Overlay<'_>, text: &mut Gathered) -> Result<(), WriteFailed> {
+/// Writes what a group's buffer holds: its bytes as they are, of which an unset one is left out.
+fn tell_space(space: &PartOverlay<'_>, text: &mut Gathered) -> Result<(), WriteFailed> {
     for at in 0..space.size() {
         if let Ok(byte) = space.load(at, Width::One) {
             text.write(&[(byte % 256) as u8])?;
@@ -52,7 +51,7 @@ fn tell_runs(runs: &Schedule, text: &mut Gathered) -> Result<(), WriteFailed> {
 }
 
 /// Writes what a group's buffers hold.
-fn tell_spaces(spaces: &[Overlay<'_>], text: &mut Gathered) -> Result<(), WriteFailed> {
+fn tell_spaces(spaces: &[PartOverlay<'_>], text: &mut Gathered) -> Result<(), WriteFailed> {
     for space in spaces {
         tell_space(space, text)?;
     }
@@ -61,7 +60,7 @@ fn tell_spaces(spaces: &[Overlay<'_>], text: &mut Gathered) -> Result<(), WriteF
 
 /// Writes the result of a group without its log.
 fn tell_result<L>(
-    came: &GroupResult<Overlay<'_>, L>,
+    came: &GroupResult<PartOverlay<'_>, L>,
     text: &mut Gathered,
 ) -> Result<(), WriteFailed> {
     match &came.end {
@@ -74,12 +73,20 @@ fn tell_result<L>(
             write_pieces(&[Piece::Number32(came.group), Piece::Text(" ")], text)?;
             fault_lines::write(fault, &came.runs, text)
         }
+        GroupEnd::Unset(_, _, spaces) => {
+            write_pieces(
+                &[Piece::Number32(came.group), Piece::Text(" unset\n")],
+                text,
+            )?;
+            tell_spaces(spaces.as_slice(), text)?;
+            tell_runs(&came.runs, text)
+        }
     }
 }
 
 /// Writes the results of groups without their logs.
 pub fn tell_results<L>(
-    results: &[GroupResult<Overlay<'_>, L>],
+    results: &[GroupResult<PartOverlay<'_>, L>],
     text: &mut Gathered,
 ) -> Result<(), WriteFailed> {
     for came in results {
@@ -100,11 +107,14 @@ fn tell_bytes(bytes: &[u8], text: &mut Gathered) -> Result<(), WriteFailed> {
     Ok(())
 }
 
-/// Writes what the buffers hold after a launch that is clean.
-fn tell_contents(contents: &[Bytes], text: &mut Gathered) -> Result<(), WriteFailed> {
+/// Writes what the buffers hold after a launch that is clean, and which of their bytes are unset.
+fn tell_contents(contents: &[Contents], text: &mut Gathered) -> Result<(), WriteFailed> {
     text.write(b"clean")?;
-    for bytes in contents {
-        tell_bytes(bytes.as_slice(), text)?;
+    for buffer in contents {
+        tell_bytes(buffer.bytes.as_slice(), text)?;
+        if !buffer.flags.is_empty() {
+            tell_bytes(buffer.flags.as_slice(), text)?;
+        }
     }
     text.write(b"\n")
 }

@@ -246,7 +246,7 @@ read_apart buffer offset digits n o later = rw (name_before_again, number_before
 -- each command that is written as in a plain script, but a program
 command_says : (text : List ℕ) (c : Command) → not (is_program c) ≡ true → IsText version.Three text c → says_at text ≡ Some (says.Command c)
 unfolding numbers_say_at after
-command_says text (command.Buffer name size) p (n, s, is) = plain_again text (command.Buffer name size) p (n, s, is) (rw is refl) (rw is refl) (rw is refl)
+command_says text (command.Buffer name size unset) p (n, s, (word, u, is)) = plain_again text (command.Buffer name size unset) p (n, s, (word, u, is)) (rw is refl) (rw is refl) (rw is refl)
 command_says text (command.Write buffer offset bytes) p (n, o, b, is) =
     plain_again text (command.Write buffer offset bytes) p (n, o, b, is) (rw is refl) (rw is refl) (rw is (write_apart buffer offset (hex bytes) n o (hex_later bytes b)))
 command_says text (command.Fill buffer offset count pattern) p (n, o, k, b, is) =
@@ -270,7 +270,7 @@ says_again text (says.Command (command.Write buffer offset bytes)) (inr (n, o, (
     rw is (rw (name_before_again, number_before_again, kind_at_again, numbers_again kind numbers bytes are) refl)
 says_again text (says.Command (command.Fill buffer offset count pattern)) (inr (n, o, k, (kind, numbers, are, is))) =
     rw is (rw (name_before_again, number_before_again, number_before_again, kind_at_again, numbers_again kind numbers pattern are) refl)
-says_again text (says.Command (command.Buffer name size)) (inr h) = absurd h
+says_again text (says.Command (command.Buffer name size unset)) (inr h) = absurd h
 says_again text (says.Command (command.Copy source offset target target_offset count)) (inr h) = absurd h
 says_again text (says.Command (command.Read buffer offset count)) (inr h) = absurd h
 says_again text (says.Command (command.Release name)) (inr h) = absurd h

@@ -12,8 +12,8 @@ use Rattle.simfile.specs.declared.lines.Version.TheVariants as version
 use Rattle.text_lines.specs.Texts.{is_later, is_listed, list_text}
 use Rattle.simfile.specs.Fields.{is_name, IsList, numbers_of, hex, is_hex_digit, bytes_of}
 use Rattle.text_lines.specs.Fronts.{list_below, after, number_at, before, or_else, ◌>>=◌}
-use Rattle.simfile.specs.Reading.{list_at, buffer_at, write_at, fill_at, copy_at, read_at, release_at, buffer_argument_at, value_argument_at, local_argument_at, argument_at, listed_offset_at, offset_at, word_at, uniform_at, orders_at, offsets_of, range_of, program_at, kernel_at, arg_at, launch_at, command_at}
-use Rattle.simfile.specs.Script.{IsText, IsSetting, IsOffset, IsWord, IsUniform, IsOrders, space, line_feed}
+use Rattle.simfile.specs.Reading.{list_at, buffer_at, write_at, fill_at, copy_at, read_at, release_at, buffer_argument_at, value_argument_at, local_argument_at, argument_at, listed_offset_at, offset_at, word_at, unset_at, uniform_at, orders_at, offsets_of, range_of, program_at, kernel_at, arg_at, launch_at, command_at}
+use Rattle.simfile.specs.Script.{IsText, IsSetting, IsOffset, IsWord, IsUnset, IsUniform, IsOrders, space, line_feed}
 use Rattle.simfile.specs.Laws.{Takes, Again}
 use Rattle.text_lines.proofs.FieldLaws.{bind_some, read_then, before_is, before_again, after_takes, number_takes, number_again, value_takes, value_again, space_ends_list, feed_ends_list}
 use Rattle.fault_lines.proofs.FieldLaws.{number_before, number_before_again}
@@ -27,12 +27,32 @@ Behind version bytes x = (text : List ℕ) × (bytes ≡ text ++ x.1) × IsText 
 tells : (v : Version) {bytes rest : List ℕ} {parts : List (List ℕ)} (c : Command) (x : Command × List ℕ) → Some (c, rest) ≡ Some x → Parted bytes parts rest → IsText v (joined parts) c → Behind v bytes x
 tells v {bytes} {rest} {parts} c x e parted text = read_is (Behind v bytes) e (joined parts, parted.split ∙ sym (joined-append parts rest), text)
 
-buffer_takes : (v : Version) (bytes : List ℕ) (x : Command × List ℕ) → buffer_at bytes ≡ Some x → Behind v (codes "buffer " ++ bytes) x
+-- a word lies in front, or nothing does
+abbrev WordBehind : (List ℕ → Bool → Type 0) → List ℕ → Bool × List ℕ → Type 0
+WordBehind is bytes x = (text : List ℕ) × (bytes ≡ text ++ x.1) × is text x.0
+
+word_takes_or : (word bytes : List ℕ) (x : Bool × List ℕ) → word_at word bytes ≡ Some x → WordBehind (IsWord word) bytes x
+unfolding word_at
+word_takes_or word bytes x e =
+    by_word (λ l. WordBehind (IsWord word) l x) word bytes (λ onto k. read_is (WordBehind (IsWord word) (word ++ onto)) k (word, refl, refl))
+    (λ k. read_is (WordBehind (IsWord word) bytes) k ([], refl, refl)) e
+
+unset_takes : (v : Version) (bytes : List ℕ) (x : Bool × List ℕ) → unset_at v bytes ≡ Some x → WordBehind (IsUnset v) bytes x
+unfolding unset_at
+unset_takes version.One bytes x e = read_is (WordBehind (IsUnset version.One) bytes) e ([], refl, (refl, refl))
+unset_takes version.Two bytes x e = read_is (WordBehind (IsUnset version.Two) bytes) e ([], refl, (refl, refl))
+unset_takes version.Three bytes x e = word_takes_or (codes " unset") bytes x e
+
+buffer_takes : (v : Version) (bytes : List ℕ) (x : Command × List ℕ) → buffer_at v bytes ≡ Some x → Behind v (codes "buffer " ++ bytes) x
 unfolding buffer_at
 buffer_takes v bytes x e =
     let s1 = read_then _ (name_before 32 bytes) e in
-    let s2 = read_then _ (number_before 10 s1.0.1) s1.2 in
-    tells v (command.Buffer s1.0.0 s2.0.0) x s2.2 (begins (codes "buffer " ∷ []) bytes ▸ s1.1.0 ▸ s2.1.0) (s1.1.1, s2.1.1, refl)
+    let s2 = read_then _ (number_takes s1.0.1) s1.2 in
+    let s3 = bind_some (before 10 (unset_at v s2.0.1)) _ x s2.2 in
+    let t3 = unset_takes v s2.0.1 (s3.0.0, 10 ∷ s3.0.1) (before_is 10 (unset_at v s2.0.1) s3.0 s3.1) in
+    let size : Parted s1.0.1 (decimal s2.0.0 ∷ []) s2.0.1 = record { split = s2.1.0 } in
+    let word : Parted s2.0.1 (t3.0 ∷ line_feed ∷ []) s3.0.1 = record { split = t3.1 } in
+    tells v (command.Buffer s1.0.0 s2.0.0 s3.0.0) x s3.2 (begins (codes "buffer " ∷ []) bytes ▸ s1.1.0 ▸ size ▸ word) (s1.1.1, s2.1.1, (t3.0, t3.2, refl))
 
 write_takes : (v : Version) (bytes : List ℕ) (x : Command × List ℕ) → write_at bytes ≡ Some x → Behind v (codes "write " ++ bytes) x
 unfolding write_at
@@ -140,16 +160,6 @@ offset_takes : (bytes : List ℕ) (x : Option (List ℕ) × List ℕ) → offset
 unfolding offset_at
 offset_takes bytes x e = offset_by bytes x (listed_offset_at bytes) refl e
 
--- a word lies in front, or nothing does
-abbrev WordBehind : (List ℕ → Bool → Type 0) → List ℕ → Bool × List ℕ → Type 0
-WordBehind is bytes x = (text : List ℕ) × (bytes ≡ text ++ x.1) × is text x.0
-
-word_takes_or : (word bytes : List ℕ) (x : Bool × List ℕ) → word_at word bytes ≡ Some x → WordBehind (IsWord word) bytes x
-unfolding word_at
-word_takes_or word bytes x e =
-    by_word (λ l. WordBehind (IsWord word) l x) word bytes (λ onto k. read_is (WordBehind (IsWord word) (word ++ onto)) k (word, refl, refl))
-    (λ k. read_is (WordBehind (IsWord word) bytes) k ([], refl, refl)) e
-
 uniform_takes : (v : Version) (bytes : List ℕ) (x : Bool × List ℕ) → uniform_at v bytes ≡ Some x → WordBehind (IsUniform v) bytes x
 unfolding uniform_at
 uniform_takes version.One bytes x e = read_is (WordBehind (IsUniform version.One) bytes) e ([], refl, (refl, refl))
@@ -195,6 +205,20 @@ command_takes v bytes c rest e =
     (by_word P (codes "fill ") bytes (λ onto. fill_takes v onto x)
     (by_word P (codes "copy ") bytes (λ onto. copy_takes v onto x)
     (by_word P (codes "release ") bytes (λ onto. release_takes v onto x) (λ h. absurd (cc))))))))))) e
+
+-- a size in front of the word `unset`, or of none
+size_again : (v : Version) (size : ℕ) → size < 2 ^ 64 → (word : List ℕ) (unset : Bool) (rest : List ℕ) → IsUnset v word unset → number_at (decimal size ++ (word ++ 10 ∷ rest)) ≡ Some (size, word ++ 10 ∷ rest)
+size_again version.One size k word unset rest h = rw h.0 (number_again size k 10 rest refl)
+size_again version.Two size k word unset rest h = rw h.0 (number_again size k 10 rest refl)
+size_again version.Three size k word false rest h = rw h (number_again size k 10 rest refl)
+size_again version.Three size k word true rest h = rw h (number_again size k 32 (codes "unset" ++ 10 ∷ rest) refl)
+
+-- what is read of that word
+unset_again : (v : Version) (word : List ℕ) (unset : Bool) (rest : List ℕ) → IsUnset v word unset → unset_at v (word ++ 10 ∷ rest) ≡ Some (unset, 10 ∷ rest)
+unset_again version.One word unset rest h = rw (h.0, h.1) (unfold unset_at in refl)
+unset_again version.Two word unset rest h = rw (h.0, h.1) (unfold unset_at in refl)
+unset_again version.Three word false rest h = rw h (unfold unset_at in unfold word_at in unfold after in refl)
+unset_again version.Three word true rest h = rw h (unfold unset_at in unfold word_at in unfold after in refl)
 
 argument_again : (setting : List ℕ) (a : Argument) (rest : List ℕ) → IsSetting setting a → argument_at (setting ++ 10 ∷ rest) ≡ Some (a, 10 ∷ rest)
 unfolding argument_at after buffer_argument_at value_argument_at local_argument_at is_later
@@ -328,8 +352,9 @@ by_parts v parts rest is e = rw (is, joined-append parts rest) e
 
 pub command_again : Again
 unfolding command_at after is_later is_hex_digit buffer_at write_at fill_at copy_at read_at release_at program_at kernel_at arg_at
-command_again v text (command.Buffer name size) rest (n, s, is) =
-    by_parts v (codes "buffer " ∷ name ∷ space ∷ decimal size ∷ line_feed ∷ []) rest is (rw (name_before_again, number_before_again))
+command_again v text (command.Buffer name size unset) rest (n, s, (word, u, is)) =
+    by_parts v (codes "buffer " ∷ name ∷ space ∷ decimal size ∷ word ∷ line_feed ∷ []) rest is
+    (rw (name_before_again, size_again v size s word unset rest u, unset_again v word unset rest u, before_again unset 10 rest))
 command_again v text (command.Write buffer offset bytes) rest (n, o, b, is) =
     by_parts v (codes "write " ∷ buffer ∷ space ∷ decimal offset ∷ space ∷ hex bytes ∷ line_feed ∷ []) rest is (rw (name_before_again, number_before_again, hex_before_again, hex_back))
 command_again v text (command.Read buffer offset count) rest (n, o, k, is) =

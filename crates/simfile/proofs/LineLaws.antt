@@ -20,7 +20,7 @@ use Rattle.text_lines.proofs.FieldLaws.{and_true, if_some, read_then, after_take
 use Rattle.fault_lines.proofs.FieldLaws.{number_before, number_before_again}
 use Rattle.fault_lines.proofs.ReaderSteps.{joined_onto, joined-append, Parted, begins, ◌▸◌, read_is}
 use Rattle.simfile.specs.Fields.{is_name, IsList, AreBytes, hex, is_hex_digit}
-use Rattle.simfile.specs.Script.{IsText, IsSetting, IsOffset, IsWord, IsUniform, IsOrders, AreLines, line_feeds, space, line_feed}
+use Rattle.simfile.specs.Script.{IsText, IsSetting, IsOffset, IsWord, IsUnset, IsUniform, IsOrders, AreLines, line_feeds, space, line_feed}
 use Rattle.simfile.specs.Reading.{name_at, hex_at, source_at, program_at, command_at}
 use Rattle.simfile.specs.Stepwise.{source_lines, IsWhole, WholeRead, WholeNone, NoLine, TooFew}
 use Rattle.simfile.proofs.FieldLaws.{hex_again, list_again, name_before, name_before_again, source_takes, source_again}
@@ -124,6 +124,11 @@ plain_word : (word text : List ℕ) (said : Bool) → line_feeds word ≡ 0 → 
 plain_word word text false plain h = ap line_feeds h
 plain_word word text true plain h = ap line_feeds h ∙ plain
 
+plain_unset : (v : Version) (word : List ℕ) (unset : Bool) → IsUnset v word unset → line_feeds word ≡ 0
+plain_unset version.One word unset h = ap line_feeds h.0
+plain_unset version.Two word unset h = ap line_feeds h.0
+plain_unset version.Three word unset h = plain_word (codes " unset") word unset refl h
+
 plain_mark : (v : Version) (mark : List ℕ) (uniform : Bool) → IsUniform v mark uniform → line_feeds mark ≡ 0
 plain_mark version.One mark uniform h = ap line_feeds h.0
 plain_mark version.Two mark uniform h = plain_word (codes " uniform") mark uniform refl h
@@ -167,8 +172,8 @@ record IsProgram (text : List ℕ) : Type 0 where
 
 -- the text of a command is one line, or that of a program
 one_line : (v : Version) (text : List ℕ) (c : Command) → IsText v text c → AreLines text 1 ⊎ IsProgram text
-one_line v text (command.Buffer name size) (n, s, is) =
-    inl (line_of (codes "buffer " ∷ name ∷ space ∷ decimal size ∷ []) (refl, (plain_name name n, (refl, (plain_number size s, tt)))) is)
+one_line v text (command.Buffer name size unset) (n, s, (word, u, is)) =
+    inl (line_of (codes "buffer " ∷ name ∷ space ∷ decimal size ∷ word ∷ []) (refl, (plain_name name n, (refl, (plain_number size s, (plain_unset v word unset u, tt))))) is)
 one_line v text (command.Write buffer offset bytes) (n, o, b, is) =
     inl (line_of (codes "write " ∷ buffer ∷ space ∷ decimal offset ∷ space ∷ hex bytes ∷ []) (refl, (plain_name buffer n, (refl, (plain_number offset o, (refl, (plain_hex bytes b, tt)))))) is)
 one_line v text (command.Read buffer offset count) (n, o, k, is) =

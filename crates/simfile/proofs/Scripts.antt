@@ -10,8 +10,8 @@ use Rattle.simfile.specs.declared.lines.Version.{Version}
 use Rattle.simfile.specs.declared.lines.Version.TheVariants as version
 use Rattle.text_lines.specs.Fronts.{after, or_else}
 use Rattle.simfile.specs.Reading.{version_at, command_at}
-use Rattle.simfile.specs.Script.{IsText, IsWord, IsNoWord, IsUniform, IsOrders, Begins, head, IsScript, IsBadLine, line_feeds}
-use Rattle.simfile.specs.Laws.{OneScript, Keeps, KeepsMore, Adds, has_no_orders, EitherOne, NotBoth, OneBadLine}
+use Rattle.simfile.specs.Script.{IsText, IsWord, IsNoWord, IsUnset, IsUniform, IsOrders, Begins, head, IsScript, IsBadLine, line_feeds}
+use Rattle.simfile.specs.Laws.{OneScript, Keeps, KeepsMore, Adds, is_older, EitherOne, NotBoth, OneBadLine}
 use Rattle.text_lines.proofs.FieldLaws.{after_takes, and_true}
 use Rattle.simfile.proofs.Grammar.{command_takes, command_again}
 
@@ -151,18 +151,23 @@ one_script bytes cs ds h k = same_commands (version_at bytes).0 (version_at byte
 abbrev SameWords : Version → Version → Bool → Bool → Type 0
 SameWords v w uniform orders = ((word : List ℕ) → IsUniform v word uniform → IsUniform w word uniform) × ((last : List ℕ) → IsOrders v last orders → IsOrders w last orders)
 
--- what a text of one version says, it says in another that has the words of its launch
-keeps_text : (v w : Version) (text : List ℕ) (c : Command) → ((kernel : List ℕ) (range : Range) (orders : Bool) → c ≡ command.Launch kernel range orders → SameWords v w range.uniform orders) → IsText v text c → IsText w text c
-keeps_text v w text (command.Buffer name size) same h = h
-keeps_text v w text (command.Write buffer offset bytes) same h = h
-keeps_text v w text (command.Read buffer offset count) same h = h
-keeps_text v w text (command.Fill buffer offset count pattern) same h = h
-keeps_text v w text (command.Copy source offset target target_offset count) same h = h
-keeps_text v w text (command.Release name) same h = h
-keeps_text v w text (command.Program name source) same h = h
-keeps_text v w text (command.Kernel name program function) same h = h
-keeps_text v w text (command.Arg kernel index argument) same h = h
-keeps_text v w text (command.Launch kernel range orders) same h =
+-- the word of a buffer in one version, as another one has it
+abbrev SameUnset : Version → Version → Bool → Type 0
+SameUnset v w unset = (word : List ℕ) → IsUnset v word unset → IsUnset w word unset
+
+-- what a text of one version says, it says in another that has the words of its launch, and of its buffer
+keeps_text : (v w : Version) (text : List ℕ) (c : Command) → ((kernel : List ℕ) (range : Range) (orders : Bool) → c ≡ command.Launch kernel range orders → SameWords v w range.uniform orders)
+    → ((name : List ℕ) (size : ℕ) (unset : Bool) → c ≡ command.Buffer name size unset → SameUnset v w unset) → IsText v text c → IsText w text c
+keeps_text v w text (command.Buffer name size unset) same one h = (h.0, h.1, (h.2, one name size unset refl h.2 h.3, h.4))
+keeps_text v w text (command.Write buffer offset bytes) same one h = h
+keeps_text v w text (command.Read buffer offset count) same one h = h
+keeps_text v w text (command.Fill buffer offset count pattern) same one h = h
+keeps_text v w text (command.Copy source offset target target_offset count) same one h = h
+keeps_text v w text (command.Release name) same one h = h
+keeps_text v w text (command.Program name source) same one h = h
+keeps_text v w text (command.Kernel name program function) same one h = h
+keeps_text v w text (command.Arg kernel index argument) same one h = h
+keeps_text v w text (command.Launch kernel range orders) same one h =
     let words = same kernel range orders refl in
     (h.0, h.1, h.2, (h.3.0, h.3.1, h.3.2, h.3.3, words.0 h.3.1 h.3.4, words.1 h.3.2 h.3.5, h.3.6))
 
@@ -182,19 +187,30 @@ words_left : (uniform orders : Bool) → not orders ≡ true → SameWords versi
 words_left uniform false none = (λ word h. h, λ last h. (h, refl))
 words_left uniform true none = absurd (cc)
 
+-- without `unset` version 2 has the word of version 3
+unset_left : (unset : Bool) → not unset ≡ true → SameUnset version.Three version.Two unset
+unset_left false none = λ word h. (h, refl)
+unset_left true none = absurd (cc)
+
 pub keeps : Keeps
 keeps lines rest [] h = h
-keeps lines rest (c ∷ cs) h = (h.0, h.1, h.2, keeps_text version.One version.Two h.0 c (λ kernel range orders is. words_kept range.uniform orders) h.3, keeps h.1 rest cs h.4)
+keeps lines rest (c ∷ cs) h = (h.0, h.1, h.2, keeps_text version.One version.Two h.0 c (λ kernel range orders is. words_kept range.uniform orders) (λ name size unset is word text. text) h.3, keeps h.1 rest cs h.4)
 
 pub keeps_more : KeepsMore
 keeps_more lines rest [] h = h
-keeps_more lines rest (c ∷ cs) h = (h.0, h.1, h.2, keeps_text version.Two version.Three h.0 c (λ kernel range orders is. words_kept_more range.uniform orders) h.3, keeps_more h.1 rest cs h.4)
+keeps_more lines rest (c ∷ cs) h = (h.0, h.1, h.2, keeps_text version.Two version.Three h.0 c (λ kernel range orders is. words_kept_more range.uniform orders) (λ name size unset is word text. no_word (codes " unset") word unset text) h.3, keeps_more h.1 rest cs h.4)
 
 pub adds : Adds
 adds lines rest [] none h = h
 adds lines rest (c ∷ cs) none h =
-    let both = and_true (has_no_orders c) (list_all has_no_orders cs) none in
-    (h.0, h.1, h.2, keeps_text version.Three version.Two h.0 c (λ kernel range orders is. words_left range.uniform orders (sym (ap has_no_orders is) ∙ both.0)) h.3, adds h.1 rest cs both.1 h.4)
+    let both = and_true (is_older c) (list_all is_older cs) none in (
+      h.0,
+      h.1,
+      h.2,
+      keeps_text version.Three version.Two h.0 c (λ kernel range orders is. words_left range.uniform orders (sym (ap is_older is) ∙ both.0))
+          (λ name size unset is. unset_left unset (sym (ap is_older is) ∙ both.0)) h.3,
+      adds h.1 rest cs both.1 h.4,
+    )
 
 pub not_both : NotBoth
 not_both bytes cs n h bad =

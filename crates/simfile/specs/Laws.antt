@@ -28,15 +28,16 @@ Keeps = (lines rest : List ℕ) (cs : List Command) → Begins version.One lines
 abbrev pub KeepsMore : Type 0
 KeepsMore = (lines rest : List ℕ) (cs : List Command) → Begins version.Two lines cs rest → Begins version.Three lines cs rest
 
--- a command isn't a launch with `orders`
-abbrev pub has_no_orders : Command → Bool
-has_no_orders (command.Launch kernel range orders) = not orders
-has_no_orders _ = true
+-- a command is one of version 2: no launch with `orders`, and no buffer whose bytes are unset
+abbrev pub is_older : Command → Bool
+is_older (command.Launch kernel range orders) = not orders
+is_older (command.Buffer name size unset) = not unset
+is_older _ = true
 
--- version 3 adds launches with `orders` alone: lines that tell commands in it, and none of these, tell the same in
--- version 2
+-- version 3 adds launches with `orders` and buffers whose bytes are unset alone: lines that tell commands in it, and
+-- none of these, tell the same in version 2
 abbrev pub Adds : Type 0
-Adds = (lines rest : List ℕ) (cs : List Command) → IsTrue (list_all has_no_orders cs) → Begins version.Three lines cs rest → Begins version.Two lines cs rest
+Adds = (lines rest : List ℕ) (cs : List Command) → IsTrue (list_all is_older cs) → Begins version.Three lines cs rest → Begins version.Two lines cs rest
 
 -- a text is a script or has a lowest bad line
 abbrev pub EitherOne : Type 0

@@ -73,6 +73,7 @@ refusal_word refusal.ArgumentsMissing = codes "13 ArgumentsMissing"
 refusal_word refusal.LocalTooLarge = codes "14 LocalTooLarge"
 refusal_word refusal.InUse = codes "15 InUse"
 refusal_word refusal.OutOfMemory = codes "16 OutOfMemory"
+refusal_word (refusal.UnsetBytes byte count) = codes "17 UnsetBytes"
 
 -- the fault of the source, where it doesn't build
 abbrev pub fault_of : Refusal → Option BuildFault
@@ -92,11 +93,18 @@ fault_of refusal.ArgumentsMissing = None
 fault_of refusal.LocalTooLarge = None
 fault_of refusal.InUse = None
 fault_of refusal.OutOfMemory = None
+fault_of (refusal.UnsetBytes byte count) = None
+
+-- the first of the unset bytes that were to be read, and how many they are, if there are some
+abbrev pub unset_of : Refusal → Option (ℕ × ℕ)
+unset_of (refusal.UnsetBytes byte count) = Some (byte, count)
+unset_of _ = None
 
 -- a refusal, behind its word
-abbrev pub refused_line : List ℕ → Option BuildFault → List ℕ
-refused_line word None = joined (codes "refused " ∷ word ∷ codes "\n" ∷ [])
-refused_line word (Some fault) = joined (codes "refused " ∷ word ∷ codes " " ∷ build_words fault ∷ decimal (build_place fault) ∷ codes "\n" ∷ [])
+abbrev pub refused_line : List ℕ → Option BuildFault → Option (ℕ × ℕ) → List ℕ
+refused_line word (Some fault) unset = joined (codes "refused " ∷ word ∷ codes " " ∷ build_words fault ∷ decimal (build_place fault) ∷ codes "\n" ∷ [])
+refused_line word None (Some unset) = joined (codes "refused " ∷ word ∷ codes " byte " ∷ decimal unset.0 ∷ codes " count " ∷ decimal unset.1 ∷ codes "\n" ∷ [])
+refused_line word None None = joined (codes "refused " ∷ word ∷ codes "\n" ∷ [])
 
 -- a reply's line, with its line feed
 abbrev pub line : Reply → List ℕ
@@ -105,7 +113,7 @@ line (reply.Data bytes) = joined (codes "data " ∷ hex bytes ∷ codes "\n" ∷
 line reply.Clean = codes "clean\n"
 line reply.Ordered = codes "ordered\n"
 line (reply.Fault fault schedule) = fault_line fault schedule
-line (reply.Refused refusal) = refused_line (refusal_word refusal) (fault_of refusal)
+line (reply.Refused refusal) = refused_line (refusal_word refusal) (fault_of refusal) (unset_of refusal)
 
 abbrev pub lines : List Reply → List ℕ
 lines replies = flat_map line replies

@@ -34,11 +34,22 @@ lines_at n bytes = do
   k ← lines_end n 0 bytes
   Some (take k bytes, drop k bytes)
 
-unfoldable pub buffer_at : List ℕ → Option (Command × List ℕ)
-buffer_at bytes = do
+-- whether a word stands in front, and the rest
+unfoldable pub word_at : List ℕ → List ℕ → Option (Bool × List ℕ)
+word_at word bytes = or_else (after word bytes) (λ rest. Some (true, rest)) (Some (false, bytes))
+
+-- whether the word of a buffer whose bytes are unset stands in front, which version 3 has, and the rest
+unfoldable pub unset_at : Version → List ℕ → Option (Bool × List ℕ)
+unset_at version.One bytes = Some (false, bytes)
+unset_at version.Two bytes = Some (false, bytes)
+unset_at version.Three bytes = word_at (codes " unset") bytes
+
+unfoldable pub buffer_at : Version → List ℕ → Option (Command × List ℕ)
+buffer_at version bytes = do
   name ← before 32 (name_at bytes)
-  size ← before 10 (number_at name.1)
-  Some (command.Buffer name.0 size.0, size.1)
+  size ← number_at name.1
+  unset ← before 10 (unset_at version size.1)
+  Some (command.Buffer name.0 size.0 unset.0, unset.1)
 
 unfoldable pub write_at : List ℕ → Option (Command × List ℕ)
 write_at bytes = do
@@ -132,10 +143,6 @@ listed_offset_at bytes = after (32 ∷ []) bytes >>= list_at
 unfoldable pub offset_at : List ℕ → Option (Option (List ℕ) × List ℕ)
 offset_at bytes = or_else (listed_offset_at bytes) (λ offset. Some (Some offset.0, offset.1)) (Some (None, bytes))
 
--- whether a word stands in front, and the rest
-unfoldable pub word_at : List ℕ → List ℕ → Option (Bool × List ℕ)
-word_at word bytes = or_else (after word bytes) (λ rest. Some (true, rest)) (Some (false, bytes))
-
 -- whether the word of a uniform launch stands in front, which version 1 lacks, and the rest
 unfoldable pub uniform_at : Version → List ℕ → Option (Bool × List ℕ)
 uniform_at version.One bytes = Some (false, bytes)
@@ -182,7 +189,7 @@ version_at bytes =
 -- a command by its first word
 unfoldable pub command_at : Version → List ℕ → Option (Command × List ℕ)
 command_at version bytes =
-    or_else (after (codes "buffer ") bytes) buffer_at
+    or_else (after (codes "buffer ") bytes) (buffer_at version)
     (or_else (after (codes "write ") bytes) write_at
     (or_else (after (codes "program ") bytes) program_at
     (or_else (after (codes "kernel ") bytes) kernel_at

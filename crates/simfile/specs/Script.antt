@@ -56,11 +56,18 @@ IsOrders version.One text orders = IsNoWord text orders
 IsOrders version.Two text orders = IsNoWord text orders
 IsOrders version.Three text orders = IsWord (codes " orders") text orders
 
+-- the word of a buffer whose bytes are unset, which version 3 has
+abbrev pub IsUnset : Version → List ℕ → Bool → Type 0
+IsUnset version.One text unset = IsNoWord text unset
+IsUnset version.Two text unset = IsNoWord text unset
+IsUnset version.Three text unset = IsWord (codes " unset") text unset
+
 -- the text of a command
 abbrev pub IsText : Version → List ℕ → Command → Type 0
-IsText version text (command.Buffer name size) =
+IsText version text (command.Buffer name size unset) =
     IsTrue (is_name name) × (size < 2 ^ 64)
-    × (text ≡ joined (codes "buffer " ∷ name ∷ space ∷ decimal size ∷ line_feed ∷ []))
+    × ((word : List ℕ) × IsUnset version word unset
+    × (text ≡ joined (codes "buffer " ∷ name ∷ space ∷ decimal size ∷ word ∷ line_feed ∷ [])))
 IsText version text (command.Write buffer offset bytes) =
     IsTrue (is_name buffer) × (offset < 2 ^ 64) × AreBytes bytes
     × (text ≡ joined (codes "write " ∷ buffer ∷ space ∷ decimal offset ∷ space ∷ hex bytes ∷ line_feed ∷ []))

@@ -4,6 +4,7 @@ use Rattle.clmodel.specs.declared.setup.Argument.{Argument}
 use Rattle.clmodel.specs.declared.setup.Argument.TheVariants as argument
 use Rattle.host_commands.specs.declared.command.Command.{Command}
 use Rattle.host_commands.specs.declared.command.Command.TheVariants as command
+use Rattle.simfile.specs.declared.lines.BufferLine.{BufferLine}
 use Rattle.simfile.specs.declared.lines.WriteLine.{WriteLine}
 use Rattle.simfile.specs.declared.lines.FillLine.{FillLine}
 use Rattle.simfile.specs.declared.lines.CopyLine.{CopyLine}
@@ -22,6 +23,9 @@ abbrev pub argument_of : Setting → Argument
 argument_of (setting.Buffer name) = argument.Buffer name.now
 argument_of (setting.Value value) = argument.Value value
 argument_of (setting.Local size) = argument.Local size
+
+abbrev pub buffer_of : BufferLine → Command
+buffer_of told = command.Buffer told.name.now told.size told.unset
 
 abbrev pub write_of : WriteLine → Command
 write_of told = command.Write told.buffer.now told.offset (bytes_of told.digits.now)
@@ -46,7 +50,7 @@ launch_of told = command.Launch told.kernel.now (range_of told.global.now told.l
 
 -- the command that a line tells
 abbrev pub command_of : Line → Command
-command_of (line.Buffer name size) = command.Buffer name.now size
+command_of (line.Buffer told) = buffer_of told
 command_of (line.Write told) = write_of told
 command_of (line.Fill told) = fill_of told
 command_of (line.Copy told) = copy_of told

@@ -6,11 +6,12 @@ ghost use Rattle.std.specs.Option.{option_map};
 ghost use Rattle.host_commands.specs.declared.command.Command.TheVariants as command;
 ghost use Rattle.simfile.specs.Fields.{bytes_of};
 ghost use Rattle.simfile.specs.Reading.{range_of};
-ghost use Rattle.simfile.specs.Views.{argument_of, write_of, fill_of, copy_of, read_of, kernel_of, arg_of, launch_of, command_of};
+ghost use Rattle.simfile.specs.Views.{argument_of, buffer_of, write_of, fill_of, copy_of, read_of, kernel_of, arg_of, launch_of, command_of};
 
 use crate::fields::{bytes_of, numbers_of};
 use crate::lines::{
-    ArgLine, CopyLine, FillLine, KernelLine, LaunchLine, Line, ReadLine, Setting, WriteLine,
+    ArgLine, BufferLine, CopyLine, FillLine, KernelLine, LaunchLine, Line, ReadLine, Setting,
+    WriteLine,
 };
 use clmodel::setup::{Argument, Range};
 use clmodel::text::{Bytes, Name, Numbers};
@@ -45,12 +46,15 @@ fn argument_of(alloc: Global, setting: Setting<'_>) -> Result<Argument, AllocErr
     }
 }
 
-/// The command that makes a buffer of a name, of `size` bytes.
-fn buffer(alloc: Global, name: &[u8], size: u64) -> Result<Command, AllocError>
-    ensures { IfOk result (λ made. made ≡ command.Buffer name.now size) }
+/// The command of a `buffer`, with a copy of its name.
+fn buffer(alloc: Global, line: BufferLine<'_>) -> Result<Command, AllocError>
+    ensures { IfOk result (λ made. made ≡ buffer_of line.entry) }
 {
-    let name = Name::copy_of(alloc, name)?;
-    Ok(Command::Buffer { name, size })
+    Ok(Command::Buffer {
+        name: Name::copy_of(alloc, line.name)?,
+        size: line.size,
+        unset: line.unset,
+    })
 }
 
 /// The command of a `write`, with the bytes that its digits write.
@@ -155,7 +159,7 @@ pub fn command_of(alloc: Global, line: Line<'_>) -> Result<Command, AllocError>
     ensures { IfOk result (λ made. made ≡ command_of line.entry) }
 {
     match line {
-        Line::Buffer { name, size } => buffer(alloc, name, size),
+        Line::Buffer(line) => buffer(alloc, line),
         Line::Write(line) => write(alloc, line),
         Line::Fill(line) => fill(alloc, line),
         Line::Copy(line) => copy(alloc, line),

@@ -46,12 +46,12 @@ fn argument_of(alloc: Global, argument: &Argument) -> Result<Argument, AllocErro
     }
 }
 
-/// A `buffer` of a name and a size. An error is out of memory.
-fn buffer(alloc: Global, name: &Name, size: u64) -> Result<Command, AllocError>
-    ensures { IfOk result (λ made. made ≡ command.Buffer name.now size) }
+/// A `buffer` of a name and a size, with `unset` or without. An error is out of memory.
+fn buffer(alloc: Global, name: &Name, size: u64, unset: bool) -> Result<Command, AllocError>
+    ensures { IfOk result (λ made. made ≡ command.Buffer name.now size unset) }
 {
     let name = name.copied(alloc)?;
-    Ok(Command::Buffer { name, size })
+    Ok(Command::Buffer { name, size, unset })
 }
 
 /// A `write` of bytes into a buffer. An error is out of memory.
@@ -175,7 +175,7 @@ pub fn copy_of(alloc: Global, command: &Command) -> Result<Command, AllocError>
     ensures { IfOk result (λ copy. copy ≡ command.now) }
 {
     match command {
-        Command::Buffer { name, size } => buffer(alloc, name, *size),
+        Command::Buffer { name, size, unset } => buffer(alloc, name, *size, *unset),
         Command::Write {
             buffer,
             offset,

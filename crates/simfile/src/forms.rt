@@ -3,27 +3,52 @@
 
 ghost use Rattle.std.specs.Prelude.{◌≡◌};
 ghost use Rattle.std.specs.Option.{option_map};
-ghost use Rattle.simfile.specs.Reading.{buffer_at, write_at, fill_at, copy_at, read_at, release_at, program_at, source_at, kernel_at, buffer_argument_at, value_argument_at, local_argument_at, argument_at, arg_at, listed_offset_at, offset_at, word_at, uniform_at, orders_at, launch_at, version_at, command_at};
+ghost use Rattle.simfile.specs.Reading.{buffer_at, write_at, fill_at, copy_at, read_at, release_at, program_at, source_at, kernel_at, buffer_argument_at, value_argument_at, local_argument_at, argument_at, arg_at, listed_offset_at, offset_at, word_at, unset_at, uniform_at, orders_at, launch_at, version_at, command_at};
 ghost use Rattle.simfile.specs.Views.{argument_of, command_of};
 
 use crate::fields::{hex_before, lines_at, list_at, list_before, name_at, name_before};
 use crate::lines::{
-    ArgLine, CopyLine, FillLine, KernelLine, LaunchLine, Line, ReadLine, Setting, Version,
-    WriteLine,
+    ArgLine, BufferLine, CopyLine, FillLine, KernelLine, LaunchLine, Line, ReadLine, Setting,
+    Version, WriteLine,
 };
 use text_lines::{after, number_at, number_before, value_at};
 
 /// The most lines of a source.
 pub(crate) const MAX_SOURCE_LINES: u64 = 65_536;
 
-/// A `buffer`, behind that word: its name, its size in bytes and a line feed, and the rest.
-#[tactic(auto, unfolding(crate::specs::Reading::buffer_at))]
-fn buffer_at(bytes: &[u8]) -> Option<(Line<'_>, &[u8])>
-    ensures { option_map (λ read. (command_of read.0, read.1.now)) result ≡ buffer_at bytes.now }
+/// Whether a word stands in front, and the rest.
+#[tactic(auto, unfolding(crate::specs::Reading::word_at))]
+fn word_at<'a>(word: &[u8], bytes: &'a [u8]) -> (bool, &'a [u8])
+    ensures { Some (result.0, result.1.now) ≡ word_at word.now bytes.now }
+{
+    match after(word, bytes) {
+        Some(rest) => (true, rest),
+        None => (false, bytes),
+    }
+}
+
+/// Whether the word of a buffer whose bytes are unset stands in front, which only version 3 has, and the rest.
+#[tactic(auto, unfolding(crate::specs::Reading::unset_at))]
+fn unset_at(version: Version, bytes: &[u8]) -> (bool, &[u8])
+    ensures { Some (result.0, result.1.now) ≡ unset_at version bytes.now }
+{
+    match version {
+        Version::Two | Version::One => (false, bytes),
+        Version::Three => word_at(b" unset", bytes),
+    }
+}
+
+/// A `buffer`, behind that word: its name, its size in bytes, `unset` if it is so, a line feed, and the rest.
+#[tactic(auto, unfolding(crate::specs::Reading::buffer_at, text_lines::specs::Fronts::before))]
+fn buffer_at(version: Version, bytes: &[u8]) -> Option<(Line<'_>, &[u8])>
+    ensures { option_map (λ read. (command_of read.0, read.1.now)) result ≡ buffer_at version bytes.now }
 {
     let (name, rest) = name_before(b' ', bytes)?;
-    let (size, rest) = number_before(b'\n', rest)?;
-    Some((Line::Buffer { name, size }, rest))
+    let (size, rest) = number_at(rest)?;
+    let (unset, rest) = unset_at(version, rest);
+    let rest = after(b"\n", rest)?;
+    let line = BufferLine { name, size, unset };
+    Some((Line::Buffer(line), rest))
 }
 
 /// A `write`, behind that word: its buffer, the offset, the bytes and a line feed, and the rest.
@@ -220,17 +245,6 @@ fn offset_at(bytes: &[u8]) -> (Option<&[u8]>, &[u8])
     }
 }
 
-/// Whether a word stands in front, and the rest.
-#[tactic(auto, unfolding(crate::specs::Reading::word_at))]
-fn word_at<'a>(word: &[u8], bytes: &'a [u8]) -> (bool, &'a [u8])
-    ensures { Some (result.0, result.1.now) ≡ word_at word.now bytes.now }
-{
-    match after(word, bytes) {
-        Some(rest) => (true, rest),
-        None => (false, bytes),
-    }
-}
-
 /// Whether the word of a uniform launch stands in front, which version 1 lacks, and the rest.
 #[tactic(auto, unfolding(crate::specs::Reading::uniform_at))]
 fn uniform_at(version: Version, bytes: &[u8]) -> (bool, &[u8])
@@ -297,7 +311,7 @@ pub fn line_at(version: Version, bytes: &[u8]) -> Option<(Line<'_>, &[u8])>
     ensures { option_map (λ read. (command_of read.0, read.1.now)) result ≡ command_at version bytes.now }
 {
     if let Some(rest) = after(b"buffer ", bytes) {
-        return buffer_at(rest);
+        return buffer_at(version, rest);
     }
     if let Some(rest) = after(b"write ", bytes) {
         return write_at(rest);

@@ -5,7 +5,8 @@ ghost use Rattle.simfile.specs.Laws.{Takes, Again, OneScript, Keeps, KeepsMore, 
 
 /// The laws of scripts: what is read is a command's text, a command's text is read, a text has one list of commands at
 /// most, lines that tell commands in a version tell the same in the next one, version 3 adds launches with `orders`
-/// alone, a text is a script or has a lowest bad line, and not both, and it has one such line at most.
+/// and buffers whose bytes are unset alone, a text is a script or has a lowest bad line, and not both, and it has one
+/// such line at most.
 pub fn script_laws()
     ensures takes { Takes }
     ensures again { Again }

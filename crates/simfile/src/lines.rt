@@ -7,7 +7,7 @@ pub enum Version {
     One,
     /// A launch may be uniform
     Two,
-    /// A launch may be uniform, and it may have `orders`
+    /// A launch may be uniform, and it may have `orders`; a buffer may be `unset`
     Three,
 }
 
@@ -18,6 +18,14 @@ pub enum Setting<'a> {
     Value(i128),
     /// The bytes of local memory
     Local(u64),
+}
+
+/// A `buffer`.
+#[derive(Clone, Copy)]
+pub struct BufferLine<'a> {
+    pub name: &'a [u8],
+    pub size: u64,
+    pub unset: bool,
 }
 
 /// A `write`, with its bytes in hexadecimal.
@@ -85,7 +93,7 @@ pub struct LaunchLine<'a> {
 /// A line of a script, with the source that follows a program's.
 #[derive(Clone, Copy)]
 pub enum Line<'a> {
-    Buffer { name: &'a [u8], size: u64 },
+    Buffer(BufferLine<'a>),
     Write(WriteLine<'a>),
     Fill(FillLine<'a>),
     Copy(CopyLine<'a>),

@@ -1,11 +1,11 @@
 //! The text of replies, a line for each.
 #![tactic(auto)]
 
-ghost use Rattle.std.specs.Prelude.{◌≡◌, [], ◌∷◌, codes};
+ghost use Rattle.std.specs.Prelude.{◌≡◌, None, [], ◌∷◌, codes};
 ghost use Rattle.byte_io.specs.Pieces.{joined};
 ghost use Rattle.byte_io.specs.Sink.{Puts};
 ghost use Rattle.simfile.specs.Fields.{hex};
-ghost use Rattle.simfile.specs.Lines.{syntax_words, syntax_place, type_words, build_words, build_place, refusal_word, fault_of, refused_line, line, check_line};
+ghost use Rattle.simfile.specs.Lines.{syntax_words, syntax_place, type_words, build_words, build_place, refusal_word, fault_of, unset_of, refused_line, line, check_line};
 
 use crate::hex::write_hex;
 use byte_io::pieces::{Piece, write_pieces};
@@ -108,6 +108,7 @@ fn refusal_word(refusal: Refusal) -> &'static str
         Refusal::LocalTooLarge => "14 LocalTooLarge",
         Refusal::InUse => "15 InUse",
         Refusal::OutOfMemory => "16 OutOfMemory",
+        Refusal::UnsetBytes { .. } => "17 UnsetBytes",
     }
 }
 
@@ -121,23 +122,60 @@ fn fault_of(refusal: Refusal) -> Option<BuildFault>
     }
 }
 
-/// Writes the line of a refusal, with the fault of the source where it doesn't build.
-fn write_refused<W: Write>(
+/// The first of the unset bytes that were to be read, and how many they are, if there are some.
+fn unset_of(refusal: Refusal) -> Option<(u64, u64)>
+    ensures { result ≡ unset_of refusal }
+{
+    match refusal {
+        Refusal::UnsetBytes { byte, count } => Some((byte, count)),
+        _ => None,
+    }
+}
+
+/// Writes the line of a refusal without a fault of a source, with the unset bytes that were to be read.
+fn write_plain<W: Write>(
     word: &str,
-    fault: Option<BuildFault>,
+    unset: Option<(u64, u64)>,
     writer: &mut W,
 ) -> Result<(), WriteFailed>
-    ensures { Puts (W.sink writer.old) result (W.sink writer.new) (refused_line word.now fault) }
+    ensures { Puts (W.sink writer.old) result (W.sink writer.new) (refused_line word.now None unset) }
 {
-    let Some(fault) = fault else {
-        return write_pieces(
+    match unset {
+        None => write_pieces(
             &[
                 Piece::Text("refused "),
                 Piece::Text(word),
                 Piece::Text("\n"),
             ],
             writer,
-        );
+        ),
+        Some((byte, count)) => write_pieces(
+            &[
+                Piece::Text("refused "),
+                Piece::Text(word),
+                Piece::Text(" byte "),
+                Piece::Number(byte),
+                Piece::Text(" count "),
+                Piece::Number(count),
+                Piece::Text("\n"),
+            ],
+            writer,
+        ),
+    }
+}
+
+/// Writes the line of a refusal, with the fault of the source where it doesn't build, and else with the unset bytes
+/// that were to be read.
+fn write_refused<W: Write>(
+    word: &str,
+    fault: Option<BuildFault>,
+    unset: Option<(u64, u64)>,
+    writer: &mut W,
+) -> Result<(), WriteFailed>
+    ensures { Puts (W.sink writer.old) result (W.sink writer.new) (refused_line word.now fault unset) }
+{
+    let Some(fault) = fault else {
+        return write_plain(word, unset, writer);
     };
     let (words, at) = fault_in_source(fault);
     write_pieces(
@@ -175,6 +213,7 @@ pub fn write_reply<W: Write>(reply: &Reply, writer: &mut W) -> Result<(), WriteF
         Reply::Refused(refusal) => write_refused(
             refusal_word(*refusal),
             fault_of(*refusal),
+            unset_of(*refusal),
             writer,
         ),
     }

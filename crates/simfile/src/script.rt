@@ -76,9 +76,9 @@ fn add(
 }
 
 /// The commands of a script, each with its place. One whose first line is `clsim 2` is of version 2, which has uniform
-/// launches, and one whose first line is `clsim 3` is of version 3, which has launches with `orders` too. This line is
-/// no command. A text that is no script has a bad line: one that is no command's of its version, is without its line
-/// feed, has too few source lines after it, or is that of the 4,097th command.
+/// launches, and one whose first line is `clsim 3` is of version 3, which has launches with `orders` and buffers whose
+/// bytes are unset too. This line is no command. A text that is no script has a bad line: one that is no command's of
+/// its version, is without its line feed, has too few source lines after it, or is that of the 4,097th command.
 pub fn read_script(alloc: Global, bytes: &[u8]) -> Result<Script, RunFault>
     ensures found { IfOk result (λ script. IsScript bytes.now script.commands.items) }
     ensures placed { IfOk result (λ script. AreAt bytes.now script.commands.items script.places.items) }

@@ -1,15 +1,14 @@
 -- Bytes with changes, and buffers into which changes are written.
-use Rattle.std.proofs.Common.{◌≡◌, ℕ, zero, suc, ◌+◌, ◌-◌, ◌*◌, ◌/◌, ◌%◌, ◌<◌, ◌≤◌, ◌⊎◌, List, [], ◌∷◌, ◌++◌, Some, length, map, take, drop, get_or, min, Result, Ok, Err, OnOk, OnErr, refl, sym, ap, ap₂, ◌∙◌, inl, inr, arith, subst, length-append}
+use Rattle.std.proofs.Common.{◌≡◌, ℕ, zero, suc, ◌+◌, ◌-◌, ◌*◌, ◌/◌, ◌%◌, ◌<◌, ◌≤◌, ◌⊎◌, List, [], ◌∷◌, ◌++◌, Some, length, map, take, drop, min, Result, Ok, Err, OnOk, OnErr, refl, sym, ap, ap₂, ◌∙◌, inl, inr, arith, subst, length-append}
 use Rattle.std.specs.Prelude.{slice_index, slice_get}
 use Rattle.std.specs.List.{range_with_len}
 use Rattle.std.proofs.lemmas.Bool.{cases_lt, cases_eq}
-use Rattle.std.proofs.lemmas.List.{get_or-take, get_or-drop, get_or_append_left, get_or-append_right, length-take, length-drop, drop_all}
+use Rattle.std.proofs.lemmas.List.{get_or-take, get_or-drop, get_or_append_left, get_or-append_right, length-take, length-drop}
 use Rattle.clmodel.specs.Cells.{Cells, cells_of, written}
 use Rattle.clmodel.proofs.CellLaws.{cells_some}
-use Rattle.spaces.specs.Changes.{Changed, with_changes, table_with_changes}
+use Rattle.spaces.specs.Changes.{Changed, with_changes}
 use Rattle.spaces.specs.Overlay.{PageCounts, overlaid_byte, overlaid, copies, IsCopied, AreNumbered}
 use Rattle.spaces.specs.Space.{Becomes}
-use Rattle.spaces.specs.Tables.{Table}
 use Rattle.spaces.proofs.Copies.{copied_or, lent, in_copy, written_same}
 use Rattle.spaces.proofs.Rows.{written_in, written_out}
 
@@ -208,19 +207,17 @@ all_written base counts numbers cells written now numbered all h = told now (ove
 
 -- ---- buffers by their names
 
-no_changes_left : (table : Table (List ℕ)) (names : List (List ℕ)) → table_with_changes table names [] ≡ table
-no_changes_left table [] = refl
-no_changes_left table (name ∷ names) = refl
-
-pub changes_done :
-    (table : Table (List ℕ)) (names : List (List ℕ)) (changes : List Changed) (place : ℕ) → (length names ≤ place) ⊎ (length changes ≤ place)
-    → table_with_changes table (drop place names) (drop place changes) ≡ table
-changes_done table names changes place (inl h) = ap (λ ns. table_with_changes table ns (drop place changes)) (drop_all place names h)
-changes_done table names changes place (inr h) = ap (table_with_changes table (drop place names)) (drop_all place changes h) ∙ no_changes_left table (drop place names)
-
 pub either_done : (names changes place : ℕ) → min names changes ≤ place → (names ≤ place) ⊎ (changes ≤ place)
 either_done names changes place h = go (cases_lt place names)
   where
     go : (place < names) ⊎ (names ≤ place) → (names ≤ place) ⊎ (changes ≤ place)
     go (inl a) = inr (omega (arith, a, h))
     go (inr a) = inl a
+
+pub any_done : (names changes others place : ℕ) → min (min names changes) others ≤ place → (names ≤ place) ⊎ ((changes ≤ place) ⊎ (others ≤ place))
+any_done names changes others place h = go (cases_lt place names) (cases_lt place changes)
+  where
+    go : (place < names) ⊎ (names ≤ place) → (place < changes) ⊎ (changes ≤ place) → (names ≤ place) ⊎ ((changes ≤ place) ⊎ (others ≤ place))
+    go (inr a) b = inl a
+    go (inl a) (inr b) = inr (inl b)
+    go (inl a) (inl b) = inr (inr (omega (arith, a, b, h)))

@@ -4,6 +4,8 @@ pub mod PageRows
 pub mod PageTables
 pub mod Rows
 pub mod Tables
+pub mod Parts
 pub mod Fills
 pub mod Performed
 pub mod Changed
+pub mod FlagRows

@@ -1,5 +1,5 @@
 -- Rows of bytes: numbers that they hold, and numbers that are written into them.
-use Rattle.std.proofs.Common.{◌≡◌, ℕ, zero, suc, ◌+◌, ◌-◌, ◌*◌, ◌/◌, ◌%◌, ◌^◌, ◌<◌, ◌≤◌, true, false, if◌then◌else◌, Option, None, Some, List, [], ◌∷◌, length, map, get_or, set, ◌⊎◌, inl, inr, refl, sym, ap, ◌∙◌, arith}
+use Rattle.std.proofs.Common.{◌≡◌, ℕ, zero, suc, ◌+◌, ◌-◌, ◌*◌, ◌/◌, ◌%◌, ◌^◌, ◌<◌, ◌≤◌, if◌then◌else◌, Option, None, Some, List, [], ◌∷◌, length, map, get_or, set, ◌⊎◌, inl, inr, refl, sym, ap, ◌∙◌, arith}
 use Rattle.std.proofs.Math.Nat.{pow-le-pow_right, pow-suc, pow-succ', div-div-eq-div-mul, div-one}
 use Rattle.std.proofs.lemmas.Bool.{false≢true, cases_eq}
 use Rattle.clmodel.specs.Cells.{Cells, cells_of, byte_of, joined, number, unset_or, lowest_unset, covers, written}
@@ -11,6 +11,12 @@ pub row_at : {A : Type 0} (f : A → Option ℕ) (cells : List A) (k : ℕ) (d :
 row_at f [] k d h = absurd (omega (arith, h))
 row_at f (cell ∷ cells) zero d h = refl
 row_at f (cell ∷ cells) (suc k) d h = row_at f cells k d (omega (arith, h))
+
+-- no byte behind it
+pub row_past : {A : Type 0} (f : A → Option ℕ) (cells : List A) (k : ℕ) → length cells ≤ k → cells_of (map f cells) k ≡ None
+row_past f [] k h = refl
+row_past f (cell ∷ cells) zero h = absurd (omega (arith, h))
+row_past f (cell ∷ cells) (suc k) h = row_past f cells k (omega (arith, h))
 
 -- another byte is as it was where one is set
 pub row_set_other :

@@ -1,10 +1,7 @@
 -- Changes of buffers, apart from the buffers (OpenCL 1.2, 5.2.1 for the bytes; own in the pages).
 use Rattle.std.specs.Prelude.{ℕ, List, [], ◌∷◌, length, map}
 use Rattle.std.specs.List.{range_with_len}
-use Rattle.std.specs.Map.{set_value}
-use Rattle.spaces.specs.Buffers.{bytes_in}
 use Rattle.spaces.specs.Overlay.{PageCounts, copies, overlaid_byte}
-use Rattle.spaces.specs.Tables.{Table, is}
 
 -- what is known of changes: the count of each page's copy, and the copies (own)
 pub record Changed : Type 0 where
@@ -20,10 +17,3 @@ abbrev pub all_with_changes : List (List ℕ) → List Changed → List (List �
 all_with_changes [] changes = []
 all_with_changes (bytes ∷ buffers) [] = []
 all_with_changes (bytes ∷ buffers) (one ∷ changes) = with_changes bytes one ∷ all_with_changes buffers changes
-
--- what has these names has these changes in turn, as far as there are names and changes (own)
-abbrev pub table_with_changes : Table (List ℕ) → List (List ℕ) → List Changed → Table (List ℕ)
-table_with_changes table [] changes = table
-table_with_changes table (name ∷ names) [] = table
-table_with_changes table (name ∷ names) (one ∷ changes) =
-    table_with_changes (set_value (is name) table (with_changes (bytes_in table name) one)) names changes

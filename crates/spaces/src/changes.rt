@@ -3,8 +3,8 @@
 ghost use Rattle.std.specs.Prelude.{◌≡◌, ◌+◌, ◌*◌, ◌<◌, ◌≤◌, ◌^◌, ℕ, List, Some, length, map, slice_get, IfOk, OnOk, OnErr};
 ghost use Rattle.std.specs.Map.{set_value};
 ghost use Rattle.clmodel.specs.Cells.{byte_count, cells_of, number, written};
-ghost use Rattle.spaces.specs.Buffers.{bytes_in};
-ghost use Rattle.spaces.specs.Changes.{with_changes, table_with_changes};
+ghost use Rattle.spaces.specs.Buffers.{row_in};
+ghost use Rattle.spaces.specs.Changes.{with_changes};
 ghost use Rattle.spaces.specs.Tables.{is};
 
 use crate::cells::is_inside;
@@ -87,22 +87,11 @@ impl Changes {
 impl Table<Bytes> {
     /// Makes changes in the buffer of a name, if there is one.
     #[tactic(auto, using(crate::proofs::Tables::unreplaced))]
-    fn write_changes(&mut self, name: &Name, changes: &Changes)
-        ensures { self.new ≡ set_value (is name.now) self.old (with_changes (bytes_in self.old name.now) changes.now) }
+    pub(crate) fn write_changes(&mut self, name: &Name, changes: &Changes)
+        ensures { self.new ≡ set_value (is name.now) self.old (with_changes (row_in self.old name.now) changes.now) }
     {
         if let Some(buffer) = self.get_mut(name) {
             changes.write_into(buffer);
-        }
-    }
-
-    /// Makes changes in the buffers with these names, one after another, as far as there are both (OpenCL 1.2, section
-    /// 5.2.1). It takes no memory, and time in proportion to what is changed.
-    pub fn write_all_changes(&mut self, names: &[Name], changes: &[Changes])
-        ensures { self.new ≡ table_with_changes self.old names.now changes.now }
-    {
-        let count = names.len().min(changes.len());
-        for place in 0..count {
-            self.write_changes(&names[place], &changes[place]);
         }
     }
 }

@@ -48,15 +48,25 @@ impl<'a> Overlay<'a> {
         self.pages.numbers.as_slice()
     }
 
+    /// All bytes are set. It does nothing when it runs.
+    pub(crate) fn all_set(&self)
+        ensures short { length self.now.bytes < 2 ^ 64 }
+        ensures set { (byte : ℕ) → byte < length self.now.bytes → (value : ℕ) × (cells_of self.now.bytes byte ≡ Some value) }
+    {
+        // the proof reads from the one that a length is a `u64`, and from the other what the bytes are made of
+        let _size = self.size();
+        let _lent = self.base.len();
+    }
+
     /// Whether n bytes from a byte on are there.
-    fn is_inside(&self, at: u64, count: u64) -> bool
+    pub(crate) fn is_inside(&self, at: u64, count: u64) -> bool
         ensures { result ≡ nat_le (at + count) (length self.now.bytes) }
     {
         is_inside(self.base.len(), at, count)
     }
 
     /// The number of an element's bytes.
-    fn number(&self, at: usize, width: Width) -> u64
+    pub(crate) fn number(&self, at: usize, width: Width) -> u64
         requires { at + byte_count width ≤ length self.now.bytes }
         ensures value { number (cells_of self.now.bytes) at (byte_count width) ≡ Some result }
         ensures below { result < 256 ^ byte_count width }
@@ -65,7 +75,7 @@ impl<'a> Overlay<'a> {
     }
 
     /// Puts the low bytes of a value in place of those of an element.
-    fn put(&mut self, at: usize, width: Width, value: u64) -> Result<(), AllocError>
+    pub(crate) fn put(&mut self, at: usize, width: Width, value: u64) -> Result<(), AllocError>
         requires { at + byte_count width ≤ length self.old.bytes }
         ensures changed { OnOk result (Becomes self.old.bytes self.new.bytes (written (cells_of self.old.bytes) at (byte_count width) value)) }
         ensures same { OnErr result (self.new.bytes ≡ self.old.bytes) }

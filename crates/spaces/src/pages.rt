@@ -71,7 +71,7 @@ impl Pages {
     }
 
     /// A byte.
-    fn byte(&self, base: &[u8], byte: usize) -> u8
+    pub(crate) fn byte(&self, base: &[u8], byte: usize) -> u8
         requires { byte < length base.now }
         ensures { result ≡ overlaid_byte base.now (copies self.now.table) self.now.cells.items byte }
     {
@@ -120,7 +120,7 @@ impl Pages {
     }
 
     /// Puts the low n bytes of a value into pages that have copies.
-    fn put_by_bytes(&mut self, base: &[u8], first: usize, count: usize, value: u64)
+    pub(crate) fn put_by_bytes(&mut self, base: &[u8], first: usize, count: usize, value: u64)
         requires short { count ≤ 8 }
         requires inside { first + count ≤ length base.now }
         requires copied { (byte : ℕ) → first ≤ byte → byte < first + count → IsCopied (copies self.old.table) (byte / 256) }
@@ -135,7 +135,7 @@ impl Pages {
     }
 
     /// Copies a page, if it has no copy, and answers the count of its copy.
-    fn copy(&mut self, base: &[u8], page: usize) -> Result<usize, AllocError>
+    pub(crate) fn copy(&mut self, base: &[u8], page: usize) -> Result<usize, AllocError>
         requires { page * 256 < length base.now }
         ensures bytes { (byte : ℕ) → byte < length base.now → overlaid_byte base.now (copies self.new.table) self.new.cells.items byte ≡ overlaid_byte base.now (copies self.old.table) self.old.cells.items byte }
         ensures copied { IfOk result (λ copy. (0 < copy) × (copies self.new.table page ≡ copy)) }

@@ -1,17 +1,17 @@
 -- Launches that are explained.
-use Rattle.std.proofs.Common.{◌≡◌, ℕ, Bool, false, Option, None, Some, Result, Ok, Err, List, refl, inl, inr, sym, ◌∙◌, subst}
+use Rattle.std.proofs.Common.{◌≡◌, ℕ, Bool, false, Option, None, Some, Result, Ok, Err, List, [], refl, inl, inr, sym, ◌∙◌, subst}
 use Rattle.std.specs.Prelude.{Decides, slice_get}
 use Rattle.std.specs.Option.{IfNone, IfSome, is_some}
 use Rattle.std.specs.Result.{IfOk}
 use Rattle.std.proofs.lemmas.Bool.{false≢true}
+use Rattle.clmodel.specs.Launch as model
 use Rattle.clmodel.specs.Law.{Reaches}
-use Rattle.clmodel.specs.Next.{launch_of}
+use Rattle.launches.specs.Groups.{launch_in}
 use Rattle.clmodel.specs.Outcome.{events_of}
-use Rattle.clmodel.specs.Setup.{Setup}
 use Rattle.clmodel.specs.declared.fault.Fault.{Fault}
 use Rattle.clmodel.specs.declared.schedule.EventRun.{EventRun}
 use Rattle.clmodel.specs.declared.setup.Range.{Range}
-use Rattle.device.specs.Machine.{Machine, IsLaunchRefusal, kernel_of, setup_of}
+use Rattle.device.specs.Machine.{Machine, IsLaunchRefusal, setup_of}
 use Rattle.device.specs.Prepared.{IsPrepared}
 use Rattle.host_commands.specs.declared.command.Command.{Command}
 use Rattle.host_commands.specs.declared.command.Command.TheVariants as command
@@ -19,8 +19,8 @@ use Rattle.host_commands.specs.declared.command.Refusal.{Refusal}
 use Rattle.host_commands.specs.declared.command.Refusal.TheVariants as refusal
 use Rattle.item_step.specs.Launches as launches
 use Rattle.item_step.specs.declared.launch.Launch.{Launch}
-use Rattle.spaces.specs.Buffers.{bytes_in}
-use Rattle.spaces.specs.Tables.{Table}
+use Rattle.spaces.specs.declared.buffers.Buffers.{Buffers}
+use Rattle.device.proofs.Prepared.{prepared_on}
 use Rattle.telling.specs.Judged.{LeadsThere, Refuses, Tells}
 use Rattle.telling.specs.declared.told.ExplainedCase.{ExplainedCase}
 
@@ -47,41 +47,35 @@ decided_not answer not d p = false≢true (sym not ∙ d.1 p)
 
 -- a prepared launch whose explanation was found exactly if its schedule leads to the fault
 pub tells :
-    (m : Machine) (commands : List Command) (ticket : ℕ) (kernel : List ℕ) (range : Range) (orders : Bool) (launch : Launch) (buffers : Table (List ℕ)) (f : Fault) (runs : List EventRun) (found : Option ExplainedCase)
-    → slice_get commands ticket ≡ Some (command.Launch kernel range orders) → IsPrepared m kernel range launch → buffers ≡ m.buffers
-    → IfNone found (Reaches (launch_of (launches.setup_of launch) (bytes_in buffers)) (events_of runs) f → ⊥)
-    → IfSome found (λ _. Reaches (launch_of (launches.setup_of launch) (bytes_in buffers)) (events_of runs) f) → Tells m commands ticket f runs (is_some found)
-tells m commands ticket kernel range orders launch buffers f runs found at p e none some = record {
+    (m : Machine) (commands : List Command) (ticket : ℕ) (kernel : List ℕ) (range : Range) (orders : Bool) (launch : Launch) (buffers : Buffers) (f : Fault) (runs : List EventRun) (found : Option ExplainedCase)
+    → slice_get commands ticket ≡ Some (command.Launch kernel range orders) → IsPrepared m kernel range launch → buffers.bytes ≡ m.buffers → buffers.flags ≡ m.flags
+    → IfNone found (Reaches (launch_in (launches.setup_of launch) buffers) (events_of runs) f → ⊥)
+    → IfSome found (λ _. Reaches (launch_in (launches.setup_of launch) buffers) (events_of runs) f) → Tells m commands ticket f runs (is_some found)
+tells m commands ticket kernel range orders launch buffers f runs found at p e set none some = record {
   kernel = kernel;
   range = range;
   orders = orders;
   at = at;
-  replays = record { admitted = p.admitted; decides = moved (go found none some) };
+  replays = record {
+    admitted = p.admitted;
+    decides = subst (λ (l : model.Launch). Decides (is_some found) (Reaches l (events_of runs) f)) (prepared_on m kernel range launch buffers p e set) (go found none some);
+  };
 }
   where
-    D : Setup → Table (List ℕ) → Type 0
-    D s b = Decides (is_some found) (Reaches (launch_of s (bytes_in b)) (events_of runs) f)
-
-    moved : D (launches.setup_of launch) buffers → D (setup_of m (kernel_of m kernel) range) m.buffers
-    moved d = subst (λ (b : Table (List ℕ)). D (setup_of m (kernel_of m kernel) range) b) e (subst (λ (s : Setup). D s buffers) p.setup d)
-
     go :
-        (o : Option ExplainedCase) → IfNone o (Reaches (launch_of (launches.setup_of launch) (bytes_in buffers)) (events_of runs) f → ⊥)
-        → IfSome o (λ _. Reaches (launch_of (launches.setup_of launch) (bytes_in buffers)) (events_of runs) f)
-        → Decides (is_some o) (Reaches (launch_of (launches.setup_of launch) (bytes_in buffers)) (events_of runs) f)
+        (o : Option ExplainedCase) → IfNone o (Reaches (launch_in (launches.setup_of launch) buffers) (events_of runs) f → ⊥)
+        → IfSome o (λ _. Reaches (launch_in (launches.setup_of launch) buffers) (events_of runs) f)
+        → Decides (is_some o) (Reaches (launch_in (launches.setup_of launch) buffers) (events_of runs) f)
     go None n s = (λ e. absurd (false≢true e), λ r. absurd (n r))
     go (Some told) n s = (λ _. s, λ _. refl)
 
 -- a schedule that leads there leads the launch that was prepared
 pub leads_prepared :
-    (m : Machine) (commands : List Command) (ticket : ℕ) (kernel : List ℕ) (range : Range) (orders : Bool) (launch : Launch) (buffers : Table (List ℕ)) (f : Fault) (runs : List EventRun)
-    → slice_get commands ticket ≡ Some (command.Launch kernel range orders) → IsPrepared m kernel range launch → buffers ≡ m.buffers → LeadsThere m commands ticket f runs
-    → Reaches (launch_of (launches.setup_of launch) (bytes_in buffers)) (events_of runs) f
-leads_prepared m commands ticket kernel range orders launch buffers f runs at p e leads =
-    subst (λ (s : Setup). R s buffers) (sym p.setup) (subst (λ (b : Table (List ℕ)). R (setup_of m (kernel_of m kernel) range) b) (sym e) (leads kernel range orders at))
-  where
-    R : Setup → Table (List ℕ) → Type 0
-    R s b = Reaches (launch_of s (bytes_in b)) (events_of runs) f
+    (m : Machine) (commands : List Command) (ticket : ℕ) (kernel : List ℕ) (range : Range) (orders : Bool) (launch : Launch) (buffers : Buffers) (f : Fault) (runs : List EventRun)
+    → slice_get commands ticket ≡ Some (command.Launch kernel range orders) → IsPrepared m kernel range launch → buffers.bytes ≡ m.buffers → buffers.flags ≡ m.flags → LeadsThere m commands ticket f runs
+    → Reaches (launch_in (launches.setup_of launch) buffers) (events_of runs) f
+leads_prepared m commands ticket kernel range orders launch buffers f runs at p e set leads =
+    subst (λ (l : model.Launch). Reaches l (events_of runs) f) (sym (prepared_on m kernel range launch buffers p e set)) (leads kernel range orders at)
 
 -- a launch that is refused, and not for want of memory, is refused by its row
 pub refuses :

@@ -1,19 +1,20 @@
 -- What is told of a launch that was played.
-use Rattle.std.proofs.Common.{◌≡◌, ◌-◌, ◌^◌, ℕ, Bool, Option, None, Some, List, string_bytes, ap, ◌∙◌, subst}
+use Rattle.std.proofs.Common.{◌≡◌, ◌-◌, ◌^◌, ℕ, Bool, Option, None, Some, List, [], string_bytes, ap, ◌∙◌, subst}
 use Rattle.std.specs.Prelude.{slice_get}
 use Rattle.std.specs.Option.{IfSome}
 use Rattle.std.specs.Str.Lossy.{utf8_lossy}
 use Rattle.clmodel.specs.Launch.{Launch}
 use Rattle.clmodel.specs.Law.{Reaches}
-use Rattle.clmodel.specs.Next.{launch_of}
+use Rattle.launches.specs.Groups.{launch_in}
 use Rattle.clmodel.specs.Outcome.{events_of}
 use Rattle.clmodel.specs.Setup.{Setup, group_items}
 use Rattle.clmodel.specs.declared.fault.Fault.{Fault}
 use Rattle.clmodel.specs.declared.schedule.EventRun.{EventRun}
 use Rattle.clmodel.specs.declared.setup.Range.{Range}
 use Rattle.device.specs.Kept.{IsCodeOf}
-use Rattle.device.specs.Machine.{Machine, kernel_of, setup_of}
+use Rattle.device.specs.Machine.{Machine, kernel_of, launch_at, setup_of}
 use Rattle.device.specs.Prepared.{IsPrepared}
+use Rattle.device.proofs.Prepared.{prepared_on}
 use Rattle.explain_items.specs.Named.{AreToldInside, told_items}
 use Rattle.explain_items.specs.declared.context.Context.{Context}
 use Rattle.explanation.specs.declared.steps.ScheduleFacts.{ScheduleFacts}
@@ -26,7 +27,8 @@ use Rattle.item_step.specs.Launches as launches
 use Rattle.placed_scripts.specs.Placed.{IsPlaced, source_name}
 use Rattle.placed_scripts.specs.declared.placed.PlacedScript.{PlacedScript}
 use Rattle.simfile.specs.declared.script.CommandPlace.{CommandPlace}
-use Rattle.spaces.specs.Buffers.{bytes_in}
+use Rattle.spaces.specs.Buffers.{bytes_in, row_in}
+use Rattle.spaces.specs.declared.buffers.Buffers.{Buffers}
 use Rattle.spaces.specs.Tables.{Table}
 use Rattle.telling.proofs.Inside.{each_inside, told_inside}
 use Rattle.telling.specs.Judged.{IsShort}
@@ -61,6 +63,7 @@ explained e options name launch contents context ticket place range orders f run
 
 -- what is told of a prepared launch
 pub whole :
+<<<<<<< ours
     (m : Machine) (options : TellOptions) (name : List ℕ) (script : PlacedScript) (commands : List Command) (done : List Bool) (ticket : ℕ) (place : CommandPlace) (kernel : List ℕ) (range : Range) (orders : Bool) (context : Context) (buffers : Table (List ℕ)) (source_file : List ℕ) (file : List ℕ) (f : Fault) (given runs : List EventRun) (e : Explanation)
     → slice_get commands ticket ≡ Some (command.Launch kernel range orders) → IsPrepared m kernel range context.launch.now → buffers ≡ m.buffers → IsSourceOf script commands done kernel context.program → IsPlaced script ticket place
     → IsShort (launch_of (launches.setup_of context.launch.now) (bytes_in buffers)) f given runs → IsAsWanted options.as_given given runs → string_bytes e.schedule.given ≡ schedule_words given
@@ -68,13 +71,20 @@ pub whole :
     → IsExplained options name (launch_of (launches.setup_of context.launch.now) (bytes_in buffers)) (bytes_in buffers) context ticket place range orders f runs e → context.kernel.now ≡ kernel
     → HasWhole m options name script commands done ticket f given runs file e
 whole m options name script commands done ticket place kernel range orders context buffers source_file file f given runs e at p same source stands short wanted words of_file told_file explained named = record {
+=======
+    (m : Machine) (options : TellOptions) (name script : List ℕ) (commands : List Command) (done : List Bool) (ticket : ℕ) (place : CommandPlace) (kernel : List ℕ) (range : Range) (orders : Bool) (context : Context) (buffers : Buffers) (f : Fault) (given runs : List EventRun) (e : Explanation)
+    → slice_get commands ticket ≡ Some (command.Launch kernel range orders) → IsPrepared m kernel range context.launch.now → buffers.bytes ≡ m.buffers → buffers.flags ≡ m.flags → IsSourceOf script commands done kernel context.program → StandsAt script commands ticket place
+    → IsShort (launch_in (launches.setup_of context.launch.now) buffers) f given runs → IsAsWanted options.as_given given runs → string_bytes e.schedule.given ≡ schedule_words given
+    → IsExplained options name (launch_in (launches.setup_of context.launch.now) buffers) (bytes_in buffers) context ticket place range orders f runs e → context.kernel.now ≡ kernel
+    → HasWhole m options name script commands done ticket f given runs e
+whole m options name script commands done ticket place kernel range orders context buffers f given runs e at p same set source stands short wanted words explained named = record {
+>>>>>>> theirs
   kernel = kernel;
   range = range;
   orders = orders;
   at = at;
   is_short =
-      subst (λ (b : Table (List ℕ)). IsShort (launch_of (setup_of m (kernel_of m kernel) range) (bytes_in b)) f given runs) same
-      (subst (λ (s : Setup). IsShort (launch_of s (bytes_in buffers)) f given runs) p.setup short);
+      subst (λ (l : Launch). IsShort l f given runs) (prepared_on m kernel range context.launch.now buffers p same set) short;
   wanted = wanted;
   context = context;
   same = p.setup;
@@ -86,8 +96,8 @@ whole m options name script commands done ticket place kernel range orders conte
   stands = stands;
   named = told_file ∙ ap utf8_lossy of_file;
   explained =
-      subst (λ (b : Table (List ℕ)). IsExplained options name (launch_of (setup_of m (kernel_of m kernel) range) (bytes_in b)) (bytes_in b) context ticket place range orders f runs e) same
-      (subst (λ (s : Setup). IsExplained options name (launch_of s (bytes_in buffers)) (bytes_in buffers) context ticket place range orders f runs e) p.setup explained);
+      subst (λ (b : Table (List ℕ)). IsExplained options name (launch_at m (setup_of m (kernel_of m kernel) range)) (row_in b) context ticket place range orders f runs e) same
+      (subst (λ (l : Launch). IsExplained options name l (bytes_in buffers) context ticket place range orders f runs e) (prepared_on m kernel range context.launch.now buffers p same set) explained);
   schedule = words;
 }
 

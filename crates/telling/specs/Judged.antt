@@ -2,12 +2,11 @@
 use Rattle.std.specs.Prelude.{◌≡◌, ◌≤◌, ℕ, Bool, ⊤, Decides, None, Some, List, length, slice_get}
 use Rattle.clmodel.specs.Launch.{Launch}
 use Rattle.clmodel.specs.Law.{Reaches}
-use Rattle.clmodel.specs.Next.{launch_of}
 use Rattle.clmodel.specs.Outcome.{events_of}
 use Rattle.clmodel.specs.declared.fault.Fault.{Fault}
 use Rattle.clmodel.specs.declared.schedule.EventRun.{EventRun}
 use Rattle.clmodel.specs.declared.setup.Range.{Range}
-use Rattle.device.specs.Machine.{Machine, first, launch_row, kernel_of, setup_of, bytes_of}
+use Rattle.device.specs.Machine.{Machine, first, launch_at, launch_row, kernel_of, setup_of}
 use Rattle.host_commands.specs.declared.command.Command.{Command}
 use Rattle.host_commands.specs.declared.command.Command.TheVariants as command
 use Rattle.host_commands.specs.declared.command.Refusal.{Refusal}
@@ -27,13 +26,13 @@ pub record IsShort (launch : Launch) (f : Fault) (given short : List EventRun) :
 -- a launch that its row doesn't refuse: true exactly where the schedule leads it to a state that shows the fault
 pub record Replays (m : Machine) (kernel : List ℕ) (range : Range) (f : Fault) (runs : List EventRun) (answer : Bool) : Type 0 where
   pub admitted : first (launch_row m kernel range) ≡ None
-  pub decides : Decides answer (Reaches (launch_of (setup_of m (kernel_of m kernel) range) (bytes_of m)) (events_of runs) f)
+  pub decides : Decides answer (Reaches (launch_at m (setup_of m (kernel_of m kernel) range)) (events_of runs) f)
 
 -- where the command of a ticket is a launch, the schedule leads it to a state that shows the fault
 abbrev pub LeadsThere : Machine → List Command → ℕ → Fault → List EventRun → Type 0
 LeadsThere m commands ticket f runs =
     (kernel : List ℕ) (range : Range) (orders : Bool) → slice_get commands ticket ≡ Some (command.Launch kernel range orders)
-    → Reaches (launch_of (setup_of m (kernel_of m kernel) range) (bytes_of m)) (events_of runs) f
+    → Reaches (launch_at m (setup_of m (kernel_of m kernel) range)) (events_of runs) f
 
 -- the command of a ticket is a launch that is judged so
 pub record Tells (m : Machine) (commands : List Command) (ticket : ℕ) (f : Fault) (runs : List EventRun) (answer : Bool) : Type 0 where

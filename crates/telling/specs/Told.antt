@@ -3,7 +3,6 @@ use Rattle.std.specs.Prelude.{◌≡◌, ◌⊎◌, ◌-◌, ◌^◌, ℕ, Bool,
 use Rattle.std.specs.Option.{unwrap_or}
 use Rattle.std.specs.Str.Lossy.{utf8_lossy}
 use Rattle.clmodel.specs.Launch.{Launch}
-use Rattle.clmodel.specs.Next.{launch_of}
 use Rattle.clmodel.specs.Outcome.{events_of}
 use Rattle.clmodel.specs.Setup.{group_items}
 use Rattle.clmodel.specs.declared.fault.Fault.{Fault}
@@ -13,7 +12,7 @@ use Rattle.clmodel.specs.declared.fault.Location.TheVariants as location
 use Rattle.clmodel.specs.declared.schedule.EventRun.{EventRun}
 use Rattle.clmodel.specs.declared.setup.Range.{Range}
 use Rattle.device.specs.Kept.{IsCodeOf}
-use Rattle.device.specs.Machine.{Machine, kernel_of, program_of, setup_of, bytes_of}
+use Rattle.device.specs.Machine.{Machine, kernel_of, launch_at, program_of, setup_of, bytes_of}
 use Rattle.explain_items.specs.Deeds.{HaveEvents, deed_of, told_deeds}
 use Rattle.explain_items.specs.Named.{AreTold, told_items}
 use Rattle.explain_items.specs.declared.context.Context.{Context}
@@ -153,7 +152,7 @@ pub record HasWhole (m : Machine) (options : TellOptions) (name : List ℕ) (scr
   pub range : Range
   pub orders : Bool
   pub at : slice_get commands ticket ≡ Some (command.Launch kernel range orders)
-  pub is_short : IsShort (launch_of (setup_of m (kernel_of m kernel) range) (bytes_of m)) f given runs
+  pub is_short : IsShort (launch_at m (setup_of m (kernel_of m kernel) range)) f given runs
   pub wanted : IsAsWanted options.as_given given runs
   pub context : Context
   pub same : launches.setup_of context.launch.now ≡ setup_of m (kernel_of m kernel) range
@@ -161,7 +160,12 @@ pub record HasWhole (m : Machine) (options : TellOptions) (name : List ℕ) (scr
   pub kernel_named : context.kernel.now ≡ kernel
   pub source : IsSourceOf script commands done kernel context.program
   pub place : CommandPlace
+<<<<<<< ours
   pub stands : IsPlaced script ticket place
   pub named : file ≡ utf8_lossy (source_name script name context.program.program_command)
   pub explained : IsExplained options name (launch_of (setup_of m (kernel_of m kernel) range) (bytes_of m)) (bytes_of m) context ticket place range orders f runs e
+=======
+  pub stands : StandsAt script commands ticket place
+  pub explained : IsExplained options name (launch_at m (setup_of m (kernel_of m kernel) range)) (bytes_of m) context ticket place range orders f runs e
+>>>>>>> theirs
   pub schedule : string_bytes e.schedule.given ≡ schedule_words given

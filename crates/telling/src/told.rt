@@ -4,14 +4,18 @@
 ghost use Rattle.std.specs.Prelude.{◌≡◌, ◌≤◌, true, Decides, Some, length, IfOk, IfErr, IfSome, IfNone, IsTrue, is_some, slice_get, string_bytes};
 ghost use Rattle.std.specs.Str.Lossy.{utf8_lossy};
 ghost use Rattle.clmodel.specs.Law.{Reaches};
-ghost use Rattle.clmodel.specs.Next.{launch_of};
 ghost use Rattle.clmodel.specs.Outcome.{events_of};
 ghost use Rattle.device.specs.Kept.{IsCodeOf};
 ghost use Rattle.device.specs.Machine.{machine_of};
 ghost use Rattle.explain_items.specs.Marked.{CodeIsMarked};
 ghost use Rattle.item_step.specs.Launches.{code_of, setup_of};
+<<<<<<< ours
 ghost use Rattle.placed_scripts.specs.Placed.{HasPlaces, source_name};
 ghost use Rattle.launches.specs.Groups.{HasGroups};
+=======
+ghost use Rattle.launches.specs.Groups.{HasGroups, launch_in};
+ghost use Rattle.simfile.specs.Places.{AreAt};
+>>>>>>> theirs
 ghost use Rattle.spaces.specs.Buffers.{bytes_in};
 ghost use Rattle.telling.specs.Judged.{IsShort, LeadsThere, NoLaunch, Tells, Untold};
 ghost use Rattle.telling.specs.Told.{HasWhole, IsAsWanted, IsExplained, IsSourceOf, schedule_words};
@@ -88,8 +92,8 @@ fn near_given(
     given: Schedule,
 ) -> Result<Schedule, AllocError>
     requires groups { HasGroups (setup_of context.now.launch.now) }
-    requires leads { Reaches (launch_of (setup_of context.now.launch.now) (bytes_in buffers.now)) (events_of given) fault.now }
-    ensures { IfOk result (IsShort (launch_of (setup_of context.now.launch.now) (bytes_in buffers.now)) fault.now given) }
+    requires leads { Reaches (launch_in (setup_of context.now.launch.now) buffers.now) (events_of given) fault.now }
+    ensures { IfOk result (IsShort (launch_in (setup_of context.now.launch.now) buffers.now) fault.now given) }
 {
     let (alloc, launch) = (context.alloc, context.launch);
     let near = near_runs(alloc, launch.group_size(), items_of(fault), &given)?;
@@ -112,8 +116,8 @@ fn chosen(
     as_given: bool,
 ) -> Result<Shortened, AllocError>
     requires groups { HasGroups (setup_of context.now.launch.now) }
-    requires leads { Reaches (launch_of (setup_of context.now.launch.now) (bytes_in buffers.now)) (events_of given) fault.now }
-    ensures short { IfOk result (λ short. IsShort (launch_of (setup_of context.now.launch.now) (bytes_in buffers.now)) fault.now given short.schedule) }
+    requires leads { Reaches (launch_in (setup_of context.now.launch.now) buffers.now) (events_of given) fault.now }
+    ensures short { IfOk result (λ short. IsShort (launch_in (setup_of context.now.launch.now) buffers.now) fault.now given short.schedule) }
     ensures wanted { IfOk result (λ short. IsAsWanted as_given given short.schedule) }
 {
     if as_given {
@@ -171,10 +175,10 @@ fn whole_of(
     short: &Shortened,
 ) -> Result<Option<Explanation>, AllocError>
     requires groups { HasGroups (setup_of context.now.launch.now) }
-    requires leads { Reaches (launch_of (setup_of context.now.launch.now) (bytes_in buffers.now)) (events_of short.now.schedule) fault.now }
-    ensures none { IfOk result (λ found. IfNone found (Reaches (launch_of (setup_of context.now.launch.now) (bytes_in buffers.now)) (events_of short.now.schedule) fault.now → ⊥)) }
+    requires leads { Reaches (launch_in (setup_of context.now.launch.now) buffers.now) (events_of short.now.schedule) fault.now }
+    ensures none { IfOk result (λ found. IfNone found (Reaches (launch_in (setup_of context.now.launch.now) buffers.now) (events_of short.now.schedule) fault.now → ⊥)) }
     ensures given { IfOk result (λ found. IfSome found (λ whole. whole.schedule.given ≡ given.text)) }
-    ensures whole { IfOk result (λ found. IfSome found (IsExplained place.now.options place.now.name.now (launch_of (setup_of context.now.launch.now) (bytes_in buffers.now)) (bytes_in buffers.now) context.now
+    ensures whole { IfOk result (λ found. IfSome found (IsExplained place.now.options place.now.name.now (launch_in (setup_of context.now.launch.now) buffers.now) (bytes_in buffers.now) context.now
         place.now.ticket place.now.place place.now.range.now place.now.orders fault.now short.now.schedule)) }
 {
     let (alloc, launch) = (context.alloc, context.launch);
@@ -198,13 +202,17 @@ fn told_of(
     as_given: bool,
 ) -> Result<Option<ExplainedCase>, AllocError>
     requires groups { HasGroups (setup_of context.now.launch.now) }
-    requires leads { Reaches (launch_of (setup_of context.now.launch.now) (bytes_in buffers.now)) (events_of schedule) fault.now }
-    ensures none { IfOk result (λ found. IfNone found (Reaches (launch_of (setup_of context.now.launch.now) (bytes_in buffers.now)) (events_of schedule) fault.now → ⊥)) }
-    ensures told { IfOk result (λ found. IfSome found (λ told. IsShort (launch_of (setup_of context.now.launch.now) (bytes_in buffers.now)) fault.now schedule told.schedule)) }
+    requires leads { Reaches (launch_in (setup_of context.now.launch.now) buffers.now) (events_of schedule) fault.now }
+    ensures none { IfOk result (λ found. IfNone found (Reaches (launch_in (setup_of context.now.launch.now) buffers.now) (events_of schedule) fault.now → ⊥)) }
+    ensures told { IfOk result (λ found. IfSome found (λ told. IsShort (launch_in (setup_of context.now.launch.now) buffers.now) fault.now schedule told.schedule)) }
     ensures wanted { IfOk result (λ found. IfSome found (λ told. IsAsWanted as_given schedule told.schedule)) }
     ensures given { IfOk result (λ found. IfSome found (λ told. string_bytes told.whole.schedule.given ≡ schedule_words schedule)) }
+<<<<<<< ours
     ensures source { IfOk result (λ found. IfSome found (λ told. string_bytes told.source ≡ utf8_lossy place.now.source.now)) }
     ensures whole { IfOk result (λ found. IfSome found (λ told. IsExplained place.now.options place.now.name.now (launch_of (setup_of context.now.launch.now) (bytes_in buffers.now)) (bytes_in buffers.now) context.now
+=======
+    ensures whole { IfOk result (λ found. IfSome found (λ told. IsExplained place.now.options place.now.name.now (launch_in (setup_of context.now.launch.now) buffers.now) (bytes_in buffers.now) context.now
+>>>>>>> theirs
         place.now.ticket place.now.place place.now.range.now place.now.orders fault.now told.schedule told.whole)) }
 {
     let given = given_schedule(context.alloc, &schedule)?;
@@ -229,8 +237,8 @@ fn leads_there(
     known: bool,
 ) -> Result<bool, AllocError>
     requires groups { HasGroups (setup_of context.now.launch.now) }
-    requires known { known ≡ true → Reaches (launch_of (setup_of context.now.launch.now) (bytes_in buffers.now)) (events_of schedule.now) fault.now }
-    ensures { IfOk result (λ yes. Decides yes (Reaches (launch_of (setup_of context.now.launch.now) (bytes_in buffers.now)) (events_of schedule.now) fault.now)) }
+    requires known { known ≡ true → Reaches (launch_in (setup_of context.now.launch.now) buffers.now) (events_of schedule.now) fault.now }
+    ensures { IfOk result (λ yes. Decides yes (Reaches (launch_in (setup_of context.now.launch.now) buffers.now) (events_of schedule.now) fault.now)) }
 {
     if known {
         return Ok(true);
@@ -248,14 +256,18 @@ fn explain_launch(
     known: bool,
 ) -> Result<Option<ExplainedCase>, AllocError>
     requires groups { HasGroups (setup_of context.now.launch.now) }
-    requires known { known ≡ true → Reaches (launch_of (setup_of context.now.launch.now) (bytes_in buffers.now)) (events_of schedule) fault.now }
-    ensures none { IfOk result (λ found. IfNone found (Reaches (launch_of (setup_of context.now.launch.now) (bytes_in buffers.now)) (events_of schedule) fault.now → ⊥)) }
-    ensures leads { IfOk result (λ found. IfSome found (λ _. Reaches (launch_of (setup_of context.now.launch.now) (bytes_in buffers.now)) (events_of schedule) fault.now)) }
-    ensures told { IfOk result (λ found. IfSome found (λ told. IsShort (launch_of (setup_of context.now.launch.now) (bytes_in buffers.now)) fault.now schedule told.schedule)) }
+    requires known { known ≡ true → Reaches (launch_in (setup_of context.now.launch.now) buffers.now) (events_of schedule) fault.now }
+    ensures none { IfOk result (λ found. IfNone found (Reaches (launch_in (setup_of context.now.launch.now) buffers.now) (events_of schedule) fault.now → ⊥)) }
+    ensures leads { IfOk result (λ found. IfSome found (λ _. Reaches (launch_in (setup_of context.now.launch.now) buffers.now) (events_of schedule) fault.now)) }
+    ensures told { IfOk result (λ found. IfSome found (λ told. IsShort (launch_in (setup_of context.now.launch.now) buffers.now) fault.now schedule told.schedule)) }
     ensures wanted { IfOk result (λ found. IfSome found (λ told. IsAsWanted place.now.options.as_given schedule told.schedule)) }
     ensures given { IfOk result (λ found. IfSome found (λ told. string_bytes told.whole.schedule.given ≡ schedule_words schedule)) }
+<<<<<<< ours
     ensures source { IfOk result (λ found. IfSome found (λ told. string_bytes told.source ≡ utf8_lossy place.now.source.now)) }
     ensures whole { IfOk result (λ found. IfSome found (λ told. IsExplained place.now.options place.now.name.now (launch_of (setup_of context.now.launch.now) (bytes_in buffers.now)) (bytes_in buffers.now) context.now
+=======
+    ensures whole { IfOk result (λ found. IfSome found (λ told. IsExplained place.now.options place.now.name.now (launch_in (setup_of context.now.launch.now) buffers.now) (bytes_in buffers.now) context.now
+>>>>>>> theirs
         place.now.ticket place.now.place place.now.range.now place.now.orders fault.now told.schedule told.whole)) }
 {
     if !leads_there(context, buffers, fault, &schedule, known)? {

@@ -147,7 +147,7 @@ fn is_as(outcome: Result<Outcome, AllocError>, expected: &Expected) -> bool {
     match outcome {
         Ok(Outcome::Clean(contents)) => match expected {
             Expected::Clean(bytes) => {
-                contents.len() == 1 && contents[0].as_slice() == bytes.as_slice()
+                contents.len() == 1 && contents[0].bytes.as_slice() == bytes.as_slice()
             }
             Expected::Faulted(..) => false,
         },
@@ -178,7 +178,7 @@ fn one_buffer(alloc: Global, bytes: &[u8]) -> Option<Buffers> {
     let bytes = Bytes::copy_of(alloc, bytes).ok()?;
     let name = Name::copy_of(alloc, b"a").ok()?;
     let mut buffers = Buffers::new(alloc);
-    buffers.insert(name, bytes).ok()?;
+    buffers.bytes.insert(name, bytes).ok()?;
     Some(buffers)
 }
 

@@ -1,7 +1,7 @@
 //! Overlays over lent buffers, called directly.
 
 use clmodel::access::{Class, Width};
-use spaces::{Overlay, Space};
+use spaces::{Overlay, PartOverlay, Space, SpaceFault};
 use std::alloc::Global;
 
 /// So many bytes, each of which is 9. None where memory runs out.
@@ -56,4 +56,30 @@ fn changes_one(alloc: Global) -> Option<bool> {
 #[test]
 fn changes_a_far_page(rt: HostRuntime) {
     assert!(rt; changes_one(rt.alloc()) == Some(true));
+}
+
+/// Whether bytes that are unset are set by a store over the end of a page, and no others.
+fn sets_both(alloc: Global) -> Option<bool> {
+    let bytes = nines(alloc, 600)?;
+    let flags = nines(alloc, 600)?;
+    let mut overlay = PartOverlay::new(alloc, bytes.as_slice(), flags.as_slice());
+    Some(
+        matches!(overlay.load(254, Width::Four), Err(SpaceFault::Unset(254)))
+            & overlay.store(254, Width::Four, 0x0403_0201).is_ok()
+            & matches!(overlay.load(254, Width::Four), Ok(0x0403_0201))
+            & matches!(overlay.load(254, Width::Eight), Err(SpaceFault::Unset(258)))
+            & matches!(
+                overlay.update(252, Class::Add, 1),
+                Err(SpaceFault::Unset(252))
+            )
+            & overlay.update(254, Class::Add, 1).is_ok()
+            & matches!(overlay.load(254, Width::Four), Ok(0x0403_0202)),
+    )
+}
+
+/// Shows that a store sets the unset bytes that it writes, in both pages, and no others.
+// Each byte of the buffer is unset at first.
+#[test]
+fn sets_over_a_page_end(rt: HostRuntime) {
+    assert!(rt; sets_both(rt.alloc()) == Some(true));
 }

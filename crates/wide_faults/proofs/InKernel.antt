@@ -76,8 +76,8 @@ numbers_differ (x ∷ xs) (y ∷ ys) free all others =
     one lets (inr two) = inr (two.0, two.1, sym (ap (λ z. not (is_number z) || is_free_at free 0) two.2) ∙ lets, two.2, two.3)
 
 pub faults_are_in_kernel : LaunchesOnce → FaultsAreInKernel
-faults_are_in_kernel once old setup buffers arguments fault schedule wide all faults other given numbers bytes =
-    ∥∥₁_map (wide other given (numbers_differ setup.arguments given arguments all.1 numbers) (bytes_differ (buffer_names setup) buffers (bytes_of old) (bytes_of other) all.0 bytes)) (λ same.
+faults_are_in_kernel once old setup buffers arguments fault schedule wide all faults other given numbers bytes flags =
+    ∥∥₁_map (wide other given (numbers_differ setup.arguments given arguments all.1 numbers) (bytes_differ (buffer_names setup) buffers (bytes_of old) (bytes_of other) all.0 bytes) flags) (λ same.
     let there = same.fault fault schedule old faults in
     record { faults = there; alone = λ r new launches. once false other (with_arguments setup given) r (reply.Fault fault schedule) new other launches there })
 

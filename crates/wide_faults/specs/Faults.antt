@@ -42,12 +42,12 @@ pub record FaultsSo (m : Machine) (setup : Setup) (fault : Fault) (schedule : Sc
   pub faults : Launches m setup (reply.Fault fault schedule) m
   pub alone : (r : Reply) (new : Machine) → Launches m setup r new → (r ≡ reply.Fault fault schedule) × (new ≡ m)
 
--- The fault of a launch is in its kernel: on each machine, whatever bytes its buffers hold, as many, and whatever
--- numbers its arguments are, the launch is answered by this fault with this schedule.
+-- The fault of a launch is in its kernel: on each machine, whatever bytes its buffers hold, as many and the same of them
+-- unset, and whatever numbers its arguments are, the launch is answered by this fault with this schedule.
 abbrev pub IsInKernel : Machine → Setup → Fault → Schedule → Type 0
 IsInKernel old setup fault schedule =
     (other : Machine) (given : List (Option Argument)) → OtherNumbers setup.arguments given → OtherBytes (buffer_names setup) (bytes_of old) (bytes_of other)
-    → ∥ FaultsSo other (with_arguments setup given) fault schedule ∥₁
+    → other.flags ≡ old.flags → ∥ FaultsSo other (with_arguments setup given) fault schedule ∥₁
 
 -- each of a list that counts is free, by its place
 abbrev pub are_free : {A : Type 0} → (A → Bool) → List A → List Bool → Bool
@@ -120,7 +120,7 @@ IsLaunchAside orders head old setup (reply.Refused why) text = text ≡ []
 -- what is told of the reply to a command
 abbrev pub IsAside : (head : List ℕ) → Machine → Command → Reply → List ℕ → Type 0
 IsAside head old (command.Launch kernel range orders) r text = IsLaunchAside orders head old (setup_of old (kernel_of old kernel) range) r text
-IsAside head old (command.Buffer name size) r text = text ≡ []
+IsAside head old (command.Buffer name size unset) r text = text ≡ []
 IsAside head old (command.Write name at bytes) r text = text ≡ []
 IsAside head old (command.Fill name at count pattern) r text = text ≡ []
 IsAside head old (command.Copy source at target to count) r text = text ≡ []

@@ -5,7 +5,7 @@ use Rattle.std.proofs.lemmas.List.{length-append, length-take, length-drop, leng
 use Rattle.std.specs.List.{list_any, range_with_len}
 use Rattle.std.specs.Map.{set_value, remove_entry}
 use Rattle.std.specs.Option.{unwrap_or}
-use Rattle.spaces.specs.Buffers.{bytes_in, with_bytes, repeated}
+use Rattle.spaces.specs.Buffers.{row_in, with_bytes, repeated}
 use Rattle.spaces.specs.Tables.{Table, is, find, with_values}
 use Rattle.same_launches.specs.Verdicts.{AlikeBytes}
 use Rattle.widening.specs.Widened.{is_free_at}
@@ -86,15 +86,15 @@ both_found taint (e ∷ es) (f ∷ fs) name h =
     by false rest = rest
 
 -- and its bytes are alike
-pub both_hold : (taint : Taint) (es fs : Table (List ℕ)) (name : List ℕ) → AlikeTables taint es fs → AlikeBytes (taint name) (bytes_in es name) (bytes_in fs name)
+pub both_hold : (taint : Taint) (es fs : Table (List ℕ)) (name : List ℕ) → AlikeTables taint es fs → AlikeBytes (taint name) (row_in es name) (row_in fs name)
 both_hold taint [] [] name h = same_bytes (taint name) [] [] refl
 both_hold taint [] (f ∷ fs) name h = absurd h
 both_hold taint (e ∷ es) [] name h = absurd h
 both_hold taint (e ∷ es) (f ∷ fs) name h =
-    subst (λ k. AlikeBytes (taint name) (unwrap_or (cond (is name k) (Some e.1) (find es name)) []) (bytes_in (f ∷ fs) name)) (sym h.0)
+    subst (λ k. AlikeBytes (taint name) (unwrap_or (cond (is name k) (Some e.1) (find es name)) []) (row_in (f ∷ fs) name)) (sym h.0)
     (by (is name f.0) refl (both_hold taint es fs name h.2))
   where
-    by : (b : Bool) → is name f.0 ≡ b → AlikeBytes (taint name) (bytes_in es name) (bytes_in fs name)
+    by : (b : Bool) → is name f.0 ≡ b → AlikeBytes (taint name) (row_in es name) (row_in fs name)
         → AlikeBytes (taint name) (unwrap_or (cond b (Some e.1) (find es name)) []) (unwrap_or (cond b (Some f.1) (find fs name)) [])
     by true here rest =
         weaker (taint e.0) (taint name) e.1 f.1 (λ t. ap taint ((bytes_decides name f.0).0 here ∙ sym h.0) ∙ t) h.1

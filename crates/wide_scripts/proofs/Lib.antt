@@ -1,4 +1,5 @@
 mod AlikeTables
+mod AlikeContents
 mod AlikeSteps
 mod AlikeRuns
 mod Marks

@@ -24,7 +24,7 @@ module _ (once : LaunchesOnce) (builds : BuildsAreOne) where
   one_built old name (Err f) r s new other x y = (x.0 ∙ sym y.0, x.1 ∙ sym y.1)
 
   one_done : (old : Machine) (c : Command) (r s : Reply) (new other : Machine) → Does old c r new → Does old c s other → (r ≡ s) × (new ≡ other)
-  one_done old (command.Buffer name size) r s new other x y = (x.0 ∙ sym y.0, x.1 ∙ sym y.1)
+  one_done old (command.Buffer name size unset) r s new other x y = (x.0 ∙ sym y.0, x.1 ∙ sym y.1)
   one_done old (command.Write name at bytes) r s new other x y = (x.0 ∙ sym y.0, x.1 ∙ sym y.1)
   one_done old (command.Fill name at count pattern) r s new other x y = (x.0 ∙ sym y.0, x.1 ∙ sym y.1)
   one_done old (command.Copy source at target to count) r s new other x y = (x.0 ∙ sym y.0, x.1 ∙ sym y.1)

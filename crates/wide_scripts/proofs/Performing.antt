@@ -59,8 +59,8 @@ prepared_noted m kernel range orders launch n prepared noted = inr (subst (λ (s
 
 -- what was noted before the reply is noted behind it, but of a buffer that wasn't made
 pub still_noted : (m : Machine) (c : Command) (r : Reply) (n : Note) → ((buffer : List ℕ) → n ≡ note.Made buffer → ⊥) → IsNoted m c reply.Done n → IsNoted m c r n
-still_noted m (command.Buffer name size) r n unmade (inl other) = inl other
-still_noted m (command.Buffer name size) r n unmade (inr made) = absurd (unmade name made.0)
+still_noted m (command.Buffer name size unset) r n unmade (inl other) = inl other
+still_noted m (command.Buffer name size unset) r n unmade (inr made) = absurd (unmade name made.0)
 still_noted m (command.Write name at bytes) r n unmade noted = noted
 still_noted m (command.Fill name at count pattern) r n unmade noted = noted
 still_noted m (command.Copy source at target to count) r n unmade noted = noted
@@ -72,7 +72,7 @@ still_noted m (command.Arg kernel index argument) r n unmade noted = noted
 still_noted m (command.Launch kernel range orders) r n unmade noted = noted
 
 pub unmade_noted : (m : Machine) (c : Command) (r : Reply) (buffer : List ℕ) → IsNoted m c reply.Done (note.Made buffer) → IsNoted m c r note.Other
-unmade_noted m (command.Buffer name size) r buffer noted = inl refl
+unmade_noted m (command.Buffer name size unset) r buffer noted = inl refl
 unmade_noted m (command.Write name at bytes) r buffer noted = absurd (no noted)
   where
     no : note.Made buffer ≡ note.Put name → ⊥

@@ -42,7 +42,7 @@ IsNoteBy false m setup n = IsLaunchNote m setup n
 -- what is noted of a command that a machine answered: nothing of a launch that its row refuses, or of a buffer that
 -- wasn't made
 abbrev pub IsNoted : Machine → Command → Reply → Note → Type 0
-IsNoted m (command.Buffer name size) r n = (n ≡ note.Other) ⊎ ((n ≡ note.Made name) × (r ≡ reply.Done))
+IsNoted m (command.Buffer name size unset) r n = (n ≡ note.Other) ⊎ ((n ≡ note.Made name) × (r ≡ reply.Done))
 IsNoted m (command.Write name at bytes) r n = n ≡ note.Put name
 IsNoted m (command.Fill name at count pattern) r n = n ≡ note.Put name
 IsNoted m (command.Copy source at target to count) r n = n ≡ note.Copied source target

@@ -40,7 +40,11 @@ impl Script {
     /// A buffer of 16 bytes.
     pub(crate) fn buffer(&mut self, buffer: &str) -> Option<()> {
         let name = name(self.alloc, buffer)?;
-        self.add(Command::Buffer { name, size: 16 })
+        self.add(Command::Buffer {
+            name,
+            size: 16,
+            unset: false,
+        })
     }
 
     /// A write of one byte at the start of a buffer.

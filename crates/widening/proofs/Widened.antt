@@ -4,7 +4,7 @@ use mathlib.Core.Path.{fun_ext}
 use Rattle.clnum.specs.Operations.{wrapped}
 use Rattle.clmodel.specs.Launch.{Launch}
 use Rattle.clmodel.specs.Law.{IsClean, IsBounded, CleanWith, Reaches, RunsClean, RunsIntoFault}
-use Rattle.clmodel.specs.Next.{launch_of, next, content}
+use Rattle.clmodel.specs.Next.{launch_on, next, content}
 use Rattle.clmodel.specs.Run.{State, Memory, Events, cells_from, contents as buffer_contents, left}
 use Rattle.clmodel.specs.Setup.{Setup, LocalObject, buffer_names, names_among, with_name, place_of, local_objects, parameter_objects, objects_of, local_size, body_objects, kernel_in, item_count, group_items}
 use Rattle.clmodel.specs.Tree.{Func}
@@ -216,9 +216,9 @@ module _ (code : Listing) (setup : Setup) (buffers locals arrays arguments : Lis
   over xs = with_arguments setup xs
 
   -- the launch of other arguments, as what the launch of some has
-  launch_is : (xs ys : List (Option Argument)) (bytes other : List ℕ → List ℕ) → buffer_names (over xs) ≡ buffer_names (over ys) → local_objects (over xs) ≡ local_objects (over ys)
-      → on_others (launch_of (over xs) bytes) (map other (buffer_names (over xs))) (next (over ys)) ≡ launch_of (over ys) other
-  launch_is xs ys bytes other g h = ap₂ built g h
+  launch_is : (xs ys : List (Option Argument)) (bytes other : List ℕ → List ℕ) (is_unset : List ℕ → ℕ → Bool) → buffer_names (over xs) ≡ buffer_names (over ys) → local_objects (over xs) ≡ local_objects (over ys)
+      → on_others (launch_on (over xs) bytes is_unset) (map other (buffer_names (over xs))) (next (over ys)) ≡ launch_on (over ys) other is_unset
+  launch_is xs ys bytes other is_unset g h = ap₂ built g h
     where
       built : List (List ℕ) → List LocalObject → Launch
       built names objects =
@@ -226,6 +226,7 @@ module _ (code : Listing) (setup : Setup) (buffers locals arrays arguments : Lis
             items = item_count setup.range;
             group_size = group_items setup.range;
             buffers = map other names;
+            unset = λ number. is_unset (slice_index_or names number []);
             local_sizes = map (λ o. o.size) objects;
             next = next (over ys);
             buffer_names = names;
@@ -240,27 +241,27 @@ module _ (code : Listing) (setup : Setup) (buffers locals arrays arguments : Lis
     reported : (events : Events) (fault : Fault) → IsReported launch events fault → IsReported other events fault
     reached : (schedule : Events) (fault : Fault) → Reaches launch schedule fault → Reaches other schedule fault
 
-  one_way : (at : ℕ → Labels) → AreLabels w code.instructions at → (xs ys : List (Option Argument)) (bytes other : List ℕ → List ℕ) → AlikeSetups w (over xs) (over ys)
+  one_way : (at : ℕ → Labels) → AreLabels w code.instructions at → (xs ys : List (Option Argument)) (bytes other : List ℕ → List ℕ) (is_unset : List ℕ → ℕ → Bool) → AlikeSetups w (over xs) (over ys)
       → ActsAsNext code (over xs) → ActsAsNext code (over ys) → buffer_names (over xs) ≡ buffer_names (over ys) → local_objects (over xs) ≡ local_objects (over ys)
-      → BytesDiffer buffers (buffer_names (over xs)) bytes other → OneWay (launch_of (over xs) bytes) (launch_of (over ys) other)
-  one_way at fits xs ys bytes other alike one two names objects differs =
-      subst (λ l. OneWay (launch_of (over xs) bytes) l) (launch_is xs ys bytes other names objects)
+      → BytesDiffer buffers (buffer_names (over xs)) bytes other → OneWay (launch_on (over xs) bytes is_unset) (launch_on (over ys) other is_unset)
+  one_way at fits xs ys bytes other is_unset alike one two names objects differs =
+      subst (λ l. OneWay (launch_on (over xs) bytes is_unset) l) (launch_is xs ys bytes other is_unset names objects)
       (record {
         goes = λ schedule state h.
-            let r = schedules_are_same w.bytes (launch_of (over xs) bytes) (map other (buffer_names (over xs))) (next (over ys)) is_alike schedule state h in
+            let r = schedules_are_same w.bytes (launch_on (over xs) bytes is_unset) (map other (buffer_names (over xs))) (next (over ys)) is_alike schedule state h in
             (r.0, r.1, r.3, r.4);
         ended = λ events h.
-            let r = (runs_are_same w.bytes (launch_of (over xs) bytes) (map other (buffer_names (over xs))) (next (over ys)) is_alike events h.0).0 h.1 in
+            let r = (runs_are_same w.bytes (launch_on (over xs) bytes is_unset) (map other (buffer_names (over xs))) (next (over ys)) is_alike events h.0).0 h.1 in
             (r.0, r.1);
         reported = λ events fault h.
-            let r = (runs_are_same w.bytes (launch_of (over xs) bytes) (map other (buffer_names (over xs))) (next (over ys)) is_alike events h.0).1 fault h.1 in
+            let r = (runs_are_same w.bytes (launch_on (over xs) bytes is_unset) (map other (buffer_names (over xs))) (next (over ys)) is_alike events h.0).1 fault h.1 in
             (r.0, r.1);
         reached = λ schedule fault h.
-            let r = schedules_are_same w.bytes (launch_of (over xs) bytes) (map other (buffer_names (over xs))) (next (over ys)) is_alike schedule h.0 h.1 in
+            let r = schedules_are_same w.bytes (launch_on (over xs) bytes is_unset) (map other (buffer_names (over xs))) (next (over ys)) is_alike schedule h.0 h.1 in
             (r.0, r.1, r.2 fault h.2);
       })
     where
-      is_alike : IsAlike w.bytes (launch_of (over xs) bytes) (map other (buffer_names (over xs))) (next (over ys))
+      is_alike : IsAlike w.bytes (launch_on (over xs) bytes is_unset) (map other (buffer_names (over xs))) (next (over ys))
       is_alike =
           record {
             uniform = refl;
@@ -283,22 +284,22 @@ module _ (code : Listing) (setup : Setup) (buffers locals arrays arguments : Lis
         reached = λ schedule f. (there.reached schedule f, back.reached schedule f);
       }
 
-  pub wide : (at : ℕ → Labels) → AreLabels w code.instructions at → (bytes other : List ℕ → List ℕ) → BytesDiffer buffers (buffer_names setup) bytes other
-      → ActsAsNext code setup → ActsAsNext code there → SameVerdict buffers (launch_of setup bytes) (launch_of there other)
-  wide at fits bytes other differs one two =
-      verdict (launch_of setup bytes) (launch_of there other)
-      (one_way at fits setup.arguments given bytes other there_alike one two names_are (same_local_objects setup arguments given differ) differs)
-      (one_way at fits given setup.arguments other bytes here_alike two one (sym names_are) (sym (same_local_objects setup arguments given differ))
+  pub wide : (at : ℕ → Labels) → AreLabels w code.instructions at → (bytes other : List ℕ → List ℕ) (is_unset : List ℕ → ℕ → Bool) → BytesDiffer buffers (buffer_names setup) bytes other
+      → ActsAsNext code setup → ActsAsNext code there → SameVerdict buffers (launch_on setup bytes is_unset) (launch_on there other is_unset)
+  wide at fits bytes other is_unset differs one two =
+      verdict (launch_on setup bytes is_unset) (launch_on there other is_unset)
+      (one_way at fits setup.arguments given bytes other is_unset there_alike one two names_are (same_local_objects setup arguments given differ) differs)
+      (one_way at fits given setup.arguments other bytes is_unset here_alike two one (sym names_are) (sym (same_local_objects setup arguments given differ))
       (subst (λ names. BytesDiffer buffers names other bytes) names_are (bytes_back (buffer_names setup) bytes other differs)))
 
 pub verdicts_are_wide : VerdictsAreWide
-verdicts_are_wide code setup buffers locals arrays arguments at fits given bytes other arguments_differ bytes_differ one two =
-    wide code setup buffers locals arrays arguments given arguments_differ at fits bytes other bytes_differ one two
+verdicts_are_wide code setup buffers locals arrays arguments at fits given bytes other is_unset arguments_differ bytes_differ one two =
+    wide code setup buffers locals arrays arguments given arguments_differ at fits bytes other is_unset bytes_differ one two
 
 -- a budget is a bound
-bounded : (setup : Setup) (bytes : List ℕ → List ℕ) → IsBounded (launch_of setup bytes) setup.budget
+bounded : (setup : Setup) (bytes : List ℕ → List ℕ) (is_unset : List ℕ → ℕ → Bool) → IsBounded (launch_on setup bytes is_unset) setup.budget
 unfolding next
-bounded setup bytes item answers below enough = walk_is_over _ _ answers enough
+bounded setup bytes is_unset item answers below enough = walk_is_over _ _ answers enough
 
 -- ---- what is left
 
@@ -329,16 +330,16 @@ same_sizes buffers names bytes other h j name is = go (is_free_at buffers j) (h 
     go false e = ap length e
 
 pub clean_is_wide : CleanIsWide
-clean_is_wide code setup buffers arguments wide given bytes other arguments_differ bytes_differ one two contents clean =
-    ends (bounded_ends (launch_of (with_arguments setup given) other) setup.budget (bounded (with_arguments setup given) other))
+clean_is_wide code setup buffers arguments wide given bytes other is_unset arguments_differ bytes_differ one two contents clean =
+    ends (bounded_ends (launch_on (with_arguments setup given) other is_unset) setup.budget (bounded (with_arguments setup given) other is_unset))
   where
-    same : SameVerdict buffers (launch_of setup bytes) (launch_of (with_arguments setup given) other)
-    same = wide given bytes other arguments_differ bytes_differ one two
+    same : SameVerdict buffers (launch_on setup bytes is_unset) (launch_on (with_arguments setup given) other is_unset)
+    same = wide given bytes other is_unset arguments_differ bytes_differ one two
 
-    is_clean : IsClean (launch_of (with_arguments setup given) other)
+    is_clean : IsClean (launch_on (with_arguments setup given) other is_unset)
     is_clean = same.clean.0 clean.clean
 
-    leaves : (others : List (List (Option ℕ))) → CleanWith (launch_of (with_arguments setup given) other) others → (number : ℕ)
+    leaves : (others : List (List (Option ℕ))) → CleanWith (launch_on (with_arguments setup given) other is_unset) others → (number : ℕ)
         → AlikeElements (is_free_at buffers number) (slice_index_or contents number []) (slice_index_or others number [])
     leaves others also number =
         let schedule = clean.complete.0 in
@@ -346,14 +347,14 @@ clean_is_wide code setup buffers arguments wide given bytes other arguments_diff
         let gone = same.there schedule done.0 done.1 in
         let names = same_names arguments setup.arguments given [] arguments_differ in
         subst (λ z. AlikeElements (is_free_at buffers number) (slice_index_or z number []) (slice_index_or others number [])) done.3
-        (subst (λ z. AlikeElements (is_free_at buffers number) (slice_index_or (left (launch_of setup bytes) done.0) number []) (slice_index_or z number [])) (also.always schedule gone.0 gone.1 (gone.2 done.2))
-        (subst (λ z. AlikeElements (is_free_at buffers number) (slice_index_or (left (launch_of setup bytes) done.0) number []) (slice_index_or (buffer_contents gone.0.memory 0 (map other z)) number [])) names
+        (subst (λ z. AlikeElements (is_free_at buffers number) (slice_index_or (left (launch_on setup bytes is_unset) done.0) number []) (slice_index_or z number [])) (also.always schedule gone.0 gone.1 (gone.2 done.2))
+        (subst (λ z. AlikeElements (is_free_at buffers number) (slice_index_or (left (launch_on setup bytes is_unset) done.0) number []) (slice_index_or (buffer_contents gone.0.memory 0 (map other z)) number [])) names
         (buffers_left (is_free_at buffers) done.0.memory gone.0.memory (buffer_names setup) bytes other 0 gone.3 (same_sizes buffers (buffer_names setup) bytes other bytes_differ) number number (omega arith))))
 
-    ends : ((events : Events) × (end : State) × RunsClean (launch_of (with_arguments setup given) other) events end) ⊎ ((events : Events) × (end : State) × (f : Fault) × RunsIntoFault (launch_of (with_arguments setup given) other) events end f)
-        → (others : List (List (Option ℕ))) × CleanWith (launch_of (with_arguments setup given) other) others
+    ends : ((events : Events) × (end : State) × RunsClean (launch_on (with_arguments setup given) other is_unset) events end) ⊎ ((events : Events) × (end : State) × (f : Fault) × RunsIntoFault (launch_on (with_arguments setup given) other is_unset) events end f)
+        → (others : List (List (Option ℕ))) × CleanWith (launch_on (with_arguments setup given) other is_unset) others
         × ((number : ℕ) → AlikeElements (is_free_at buffers number) (slice_index_or contents number []) (slice_index_or others number []))
     ends (inl run) =
-        let also = clean_with (launch_of (with_arguments setup given) other) run.0 run.1 run.2 in
-        (left (launch_of (with_arguments setup given) other) run.1, also, leaves (left (launch_of (with_arguments setup given) other) run.1) also)
-    ends (inr run) = let shown = reports_shown (launch_of (with_arguments setup given) other) run.0 run.1 run.2 run.3 in absurd (is_clean run.0 run.1 shown.0 run.2 shown.1)
+        let also = clean_with (launch_on (with_arguments setup given) other is_unset) run.0 run.1 run.2 in
+        (left (launch_on (with_arguments setup given) other is_unset) run.1, also, leaves (left (launch_on (with_arguments setup given) other is_unset) run.1) also)
+    ends (inr run) = let shown = reports_shown (launch_on (with_arguments setup given) other is_unset) run.0 run.1 run.2 run.3 in absurd (is_clean run.0 run.1 shown.0 run.2 shown.1)

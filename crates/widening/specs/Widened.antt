@@ -2,7 +2,7 @@
 use Rattle.std.specs.Prelude.{◌≡◌, ◌↔◌, ◌⊎◌, ℕ, ℤ, Bool, true, false, Option, Some, List, [], ◌∷◌, drop, slice_get, slice_index_or}
 use Rattle.clmodel.specs.Launch.{Launch}
 use Rattle.clmodel.specs.Law.{IsClean, CleanWith, Reaches, RunsClean, RunsIntoFault}
-use Rattle.clmodel.specs.Next.{launch_of}
+use Rattle.clmodel.specs.Next.{launch_on}
 use Rattle.clmodel.specs.Run.{State, Events, start, after, IsComplete}
 use Rattle.clmodel.specs.Setup.{Setup, buffer_names, place_of}
 use Rattle.clmodel.specs.declared.access.Region.TheVariants as region
@@ -75,11 +75,11 @@ abbrev pub with_arguments : Setup → List (Option Argument) → Setup
 with_arguments setup arguments = record setup { arguments = arguments }
 
 -- The verdict of a launch holds for all bytes of these buffers, by their places among the launch's, and for all numbers
--- of these arguments.
+-- of these arguments. The same bytes are unset in all of them (C99 6.7.8).
 abbrev pub IsWide : Listing → Setup → (buffers arguments : List Bool) → Type 0
 IsWide code setup buffers arguments =
-    (given : List (Option Argument)) (bytes other : List ℕ → List ℕ) → ArgumentsDiffer arguments setup.arguments given → BytesDiffer buffers (buffer_names setup) bytes other
-    → ActsAsNext code setup → ActsAsNext code (with_arguments setup given) → SameVerdict buffers (launch_of setup bytes) (launch_of (with_arguments setup given) other)
+    (given : List (Option Argument)) (bytes other : List ℕ → List ℕ) (is_unset : List ℕ → ℕ → Bool) → ArgumentsDiffer arguments setup.arguments given → BytesDiffer buffers (buffer_names setup) bytes other
+    → ActsAsNext code setup → ActsAsNext code (with_arguments setup given) → SameVerdict buffers (launch_on setup bytes is_unset) (launch_on (with_arguments setup given) other is_unset)
 
 -- ---- the labels of a launch
 
@@ -114,7 +114,8 @@ VerdictsAreWide =
 abbrev pub CleanIsWide : Type 0
 CleanIsWide =
     (code : Listing) (setup : Setup) (buffers arguments : List Bool) → IsWide code setup buffers arguments
-    → (given : List (Option Argument)) (bytes other : List ℕ → List ℕ) → ArgumentsDiffer arguments setup.arguments given → BytesDiffer buffers (buffer_names setup) bytes other
+    → (given : List (Option Argument)) (bytes other : List ℕ → List ℕ) (is_unset : List ℕ → ℕ → Bool) → ArgumentsDiffer arguments setup.arguments given → BytesDiffer buffers (buffer_names setup) bytes other
     → ActsAsNext code setup → ActsAsNext code (with_arguments setup given)
-    → (contents : List (List (Option ℕ))) → CleanWith (launch_of setup bytes) contents → (others : List (List (Option ℕ))) × CleanWith (launch_of (with_arguments setup given) other) others
+    → (contents : List (List (Option ℕ))) → CleanWith (launch_on setup bytes is_unset) contents
+    → (others : List (List (Option ℕ))) × CleanWith (launch_on (with_arguments setup given) other is_unset) others
     × ((number : ℕ) → AlikeElements (is_free_at buffers number) (slice_index_or contents number []) (slice_index_or others number []))

@@ -6,10 +6,10 @@ use lib.ListN.{length-append}
 use Rattle.std.proofs.Math.Nat.{mul-le-mul_right}
 use Rattle.clmodel.specs.Launch.{Launch}
 use Rattle.group_run.specs.declared.result.GroupEnd.{GroupEnd}
-use Rattle.group_run.specs.declared.result.GroupEnd.TheVariants.{Done, Stopped}
+use Rattle.group_run.specs.declared.result.GroupEnd.TheVariants.{Done, Stopped, Unset}
 use Rattle.joining.specs.Parts.{OnePart}
 use Rattle.group_join.specs.Launches.{Followed, is_stop, is_stopped}
-use Rattle.spaces.specs.Overlay.{Overlaid}
+use Rattle.spaces.specs.Parts.{Parted}
 use Rattle.workers_draw.specs.Groups.{AreResults}
 use Rattle.workers_draw.proofs.Orders.{SoFar, ends_full, ends_stopped}
 use Rattle.workers.specs.declared.units.UnitResults.{UnitResults}
@@ -36,21 +36,25 @@ further : (group other : ℕ) → group ≤ other → (other ≡ group → ⊥) 
 further group other from differs = dite (ℕ_discrete other group) (λ e. absurd (differs e)) (λ ne. omega (arith, from, ne))
 
 -- what stands behind a group that hasn't stopped, and behind one that has
-goes_on : (end : GroupEnd Overlaid) (more none : Type 0) → is_stop end ≡ false → Followed end more none → more
+goes_on : (end : GroupEnd Parted) (more none : Type 0) → is_stop end ≡ false → Followed end more none → more
 goes_on (Done spaces) more none on is = is
 goes_on (Stopped fault) more none on is = absurd (true≢false on)
+goes_on (Unset entry own spaces) more none on is = absurd (true≢false on)
 
-goes_on_so : (end : GroupEnd Overlaid) (more none : Type 0) → is_stop end ≡ false → more → Followed end more none
+goes_on_so : (end : GroupEnd Parted) (more none : Type 0) → is_stop end ≡ false → more → Followed end more none
 goes_on_so (Done spaces) more none on is = is
 goes_on_so (Stopped fault) more none on is = absurd (true≢false on)
+goes_on_so (Unset entry own spaces) more none on is = absurd (true≢false on)
 
-ends_so : (end : GroupEnd Overlaid) (more none : Type 0) → is_stop end ≡ true → none → Followed end more none
+ends_so : (end : GroupEnd Parted) (more none : Type 0) → is_stop end ≡ true → none → Followed end more none
 ends_so (Done spaces) more none stop is = absurd (true≢false (sym stop))
 ends_so (Stopped fault) more none stop is = is
+ends_so (Unset entry own spaces) more none stop is = is
 
-ends : (end : GroupEnd Overlaid) (more none : Type 0) → is_stop end ≡ true → Followed end more none → none
+ends : (end : GroupEnd Parted) (more none : Type 0) → is_stop end ≡ true → Followed end more none → none
 ends (Done spaces) more none stop is = absurd (true≢false (sym stop))
 ends (Stopped fault) more none stop is = is
+ends (Unset entry own spaces) more none stop is = is
 
 -- results in their order are those that are joined
 are_joined : (launch : Launch) (last group : ℕ) (results : List Came) → AreResults last (IsOfGroup launch) is_stopped group results → AreOfRound launch last group results

@@ -7,31 +7,31 @@ use Rattle.joining.specs.Parts.{Part, IsPart}
 use Rattle.joining.specs.Steps.{HasGroup}
 use Rattle.shadow.specs.declared.group_accesses.AccessSummary.{AccessSummary}
 use Rattle.group_join.specs.Launches.{IsShortResult, AreResultsTo, is_stopped}
-use Rattle.spaces.specs.Overlay.{Overlaid}
+use Rattle.spaces.specs.Parts.{Parted}
 use Rattle.workers.specs.declared.units.UnitResults.{UnitResults}
 
 -- the result of a group, that of its canonical run on the launch's first memory (3.2), where a list stands for its log
 -- (own)
-abbrev pub IsListed : Launch → ℕ → GroupResult Overlaid AccessSummary → Type 0
+abbrev pub IsListed : Launch → ℕ → GroupResult Parted AccessSummary → Type 0
 IsListed = IsShortResult (λ overlay. overlay.bytes) (λ list. list.entries.items) (λ list. list.has_last)
 
 -- the result of a group that the launch has: that of its canonical run on the launch's first memory (3.2)
-abbrev pub IsOfGroup : Launch → ℕ → GroupResult Overlaid AccessSummary → Type 0
+abbrev pub IsOfGroup : Launch → ℕ → GroupResult Parted AccessSummary → Type 0
 IsOfGroup launch group came = HasGroup launch group × IsListed launch group came
 
 -- the results of a round's groups, from one on up to another, which isn't among them: of all of them, or up to and with
 -- one that stopped (own)
-abbrev pub AreOfRound : Launch → ℕ → ℕ → List (GroupResult Overlaid AccessSummary) → Type 0
+abbrev pub AreOfRound : Launch → ℕ → ℕ → List (GroupResult Parted AccessSummary) → Type 0
 AreOfRound = AreResultsTo (λ overlay. overlay.bytes) (λ list. list.entries.items) (λ list. list.has_last)
 
 -- one of these results is of a group that stopped (own)
-abbrev pub has_stop : List (GroupResult Overlaid AccessSummary) → Bool
+abbrev pub has_stop : List (GroupResult Parted AccessSummary) → Bool
 has_stop [] = false
 has_stop (came ∷ results) = is_stopped came || has_stop results
 
 -- the results of some groups, from one on up to another, which isn't among them: as those of a round, at most one of
 -- each group, and whether one stopped (own)
-pub record AreOfSome (launch : Launch) (first last : ℕ) (results : List (GroupResult Overlaid AccessSummary)) (stopped : Bool) : Type 0 where
+pub record AreOfSome (launch : Launch) (first last : ℕ) (results : List (GroupResult Parted AccessSummary)) (stopped : Bool) : Type 0 where
   pub round : AreOfRound launch last first results
   pub count : first + length results ≤ last
   pub flag : stopped ≡ has_stop results
@@ -58,6 +58,6 @@ IsOfUnit launch first last each unit came =
     (came.unit ≡ unit) × AreOfSome launch (unit_at first last each unit) (unit_at first last each (suc unit)) came.results.items came.stopped
 
 -- the results of units, one after another (own)
-abbrev pub all_results : List UnitResults → List (GroupResult Overlaid AccessSummary)
+abbrev pub all_results : List UnitResults → List (GroupResult Parted AccessSummary)
 all_results [] = []
 all_results (came ∷ units) = came.results.items ++ all_results units

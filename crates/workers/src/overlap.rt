@@ -1,13 +1,12 @@
 //! The run of a round of groups beside the join of the round before it.
 
 ghost use Rattle.std.specs.Prelude.{◌≡◌, ◌*◌, ◌<◌, ◌≤◌, max, min, IfOk};
-ghost use Rattle.clmodel.specs.Next.{launch_of};
 ghost use Rattle.clmodel.specs.Setup.{item_count, group_items};
 ghost use Rattle.item_step.specs.Launches.{setup_of};
-ghost use Rattle.launches.specs.Groups.{HasGroups};
+ghost use Rattle.launches.specs.Groups.{HasGroups, launch_in};
+ghost use Rattle.group_join.specs.Ends.{flags_of};
 ghost use Rattle.group_join.specs.JoinedGroups.{HoldsGroups};
 ghost use Rattle.group_join.specs.Rounds.{CameOfRound};
-ghost use Rattle.spaces.specs.Buffers.{bytes_in};
 ghost use Rattle.workers.specs.Results.{AreOfRound};
 
 use crate::group_calls::GateCalls;
@@ -52,7 +51,7 @@ pub(crate) fn run_round<'a, G: Gate, R: Threads + Wait + Sync>(
     requires order { first ≤ last }
     requires there { last * group_items (setup_of launch.now).range ≤ item_count (setup_of launch.now).range }
     requires workers { (1 ≤ workers) × (workers ≤ 16) }
-    ensures { IfOk result (λ v. AreOfRound (launch_of (setup_of launch.now) (bytes_in buffers.now)) last first v.items) }
+    ensures { IfOk result (λ v. AreOfRound (launch_in (setup_of launch.now) buffers.now) last first v.items) }
 {
     rounds_are_shared::<G>();
     let calls = GateCalls { gate };
@@ -90,10 +89,10 @@ pub(crate) fn join_and_run<'a, 'b, G: Gate, R: Threads + Wait + Sync>(
     requires there { end * group_items (setup_of launch.now).range ≤ item_count (setup_of launch.now).range }
     requires each { 0 < each }
     requires workers { (1 ≤ workers) × (workers ≤ 16) }
-    requires so_far { HoldsGroups (launch_of (setup_of launch.now) (bytes_in buffers.now)) first so_far }
-    requires results { AreOfRound (launch_of (setup_of launch.now) (bytes_in buffers.now)) last first results.items }
-    ensures next { IfOk result.0 (λ v. AreOfRound (launch_of (setup_of launch.now) (bytes_in buffers.now)) end last v.items) }
-    ensures joined { IfOk result.1 (CameOfRound (launch_of (setup_of launch.now) (bytes_in buffers.now)) last) }
+    requires so_far { HoldsGroups (launch_in (setup_of launch.now) buffers.now) (flags_of (setup_of launch.now) buffers.now) first so_far }
+    requires results { AreOfRound (launch_in (setup_of launch.now) buffers.now) last first results.items }
+    ensures next { IfOk result.0 (λ v. AreOfRound (launch_in (setup_of launch.now) buffers.now) end last v.items) }
+    ensures joined { IfOk result.1 (CameOfRound (launch_in (setup_of launch.now) buffers.now) (flags_of (setup_of launch.now) buffers.now) last) }
 {
     rounds_are_shared::<G>();
     let calls = GateCalls { gate };
@@ -106,8 +105,8 @@ pub(crate) fn join_and_run<'a, 'b, G: Gate, R: Threads + Wait + Sync>(
         workers,
         &OpenGate,
         move || -> Result<JoinEnd<JoinedGroups<'_>>, AllocError>
-            requires { HasGroups (setup_of launch.now) × (first ≤ last) × HoldsGroups (launch_of (setup_of launch.now) (bytes_in buffers.now)) first so_far × AreOfRound (launch_of (setup_of launch.now) (bytes_in buffers.now)) last first results.items }
-            ensures { IfOk result (CameOfRound (launch_of (setup_of launch.entry.now) (bytes_in buffers.entry.now)) last) }
+            requires { HasGroups (setup_of launch.now) × (first ≤ last) × HoldsGroups (launch_in (setup_of launch.now) buffers.now) (flags_of (setup_of launch.now) buffers.now) first so_far × AreOfRound (launch_in (setup_of launch.now) buffers.now) last first results.items }
+            ensures { IfOk result (CameOfRound (launch_in (setup_of launch.entry.now) buffers.entry.now) (flags_of (setup_of launch.entry.now) buffers.entry.now) last) }
         { join_round(alloc, launch, buffers, so_far, first, last, results) },
     );
     (round.results_of(alloc, units), joined)

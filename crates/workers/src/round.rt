@@ -2,13 +2,11 @@
 
 ghost use Rattle.std.specs.Prelude.{◌≡◌, ◌+◌, ◌*◌, ◌<◌, ◌≤◌, ℕ, suc, IfOk};
 ghost use Rattle.clmodel.specs.Launch.{Launch as TheLaunch};
-ghost use Rattle.clmodel.specs.Next.{launch_of};
 ghost use Rattle.clmodel.specs.Setup.{item_count, group_items};
 ghost use Rattle.group_run.specs.Results.{IsResult};
 ghost use Rattle.item_step.specs.Launches.{setup_of};
-ghost use Rattle.launches.specs.Groups.{HasGroups};
+ghost use Rattle.launches.specs.Groups.{HasGroups, launch_in};
 ghost use Rattle.group_join.specs.Launches.{heap_log};
-ghost use Rattle.spaces.specs.Buffers.{bytes_in};
 ghost use Rattle.workers_draw.specs.Groups.{AreResults};
 ghost use Rattle.workers.specs.Results.{AreOfRound, AreOfSome, IsListed, IsOfGroup, IsOfUnit, IsStoppingAmong, unit_at};
 
@@ -19,7 +17,7 @@ use group_join::{HeapLog, has_stopped, one_group};
 use group_run::GroupResult;
 use item_step::Launch;
 use joining::one_part;
-use spaces::{Buffers, Overlay};
+use spaces::{Buffers, PartOverlay};
 use std::alloc::{AllocError, Global};
 use std::marker::Sync;
 use workers_draw::work::Work;
@@ -61,7 +59,7 @@ fn unit_count(groups: u32, each: u32) -> u32
 /// A result with a list in place of its log, and the log. An error is out of memory.
 fn shortened<'a>(
     alloc: Global,
-    came: GroupResult<Overlay<'a>, HeapLog>,
+    came: GroupResult<PartOverlay<'a>, HeapLog>,
 ) -> Result<(ShortResult<'a>, HeapLog), AllocError>
     ensures listed { (launch : TheLaunch) (group : ℕ) → IsResult (λ overlay. overlay.bytes) heap_log launch group came.entry → IfOk result (λ t. IsListed launch group t.0) }
     ensures log { IfOk result (λ t. (heap_log t.1).uniform ≡ (heap_log came.entry.log).uniform) }
@@ -133,7 +131,7 @@ impl<'a, 's, 'c, C: GroupCalls> Round<'a, 's, 'c, C> {
     ) -> Result<(ShortResult<'a>, HeapLog), AllocError>
         requires there { group < self.now.last }
         requires log { (heap_log log).uniform ≡ (setup_of self.now.launch.now).range.uniform }
-        ensures came { IfOk result (λ t. IsOfGroup (launch_of (setup_of self.now.launch.now) (bytes_in self.now.buffers.now)) group t.0) }
+        ensures came { IfOk result (λ t. IsOfGroup (launch_in (setup_of self.now.launch.now) self.now.buffers.now) group t.0) }
         ensures log { IfOk result (λ t. (heap_log t.1).uniform ≡ (setup_of self.now.launch.now).range.uniform) }
     {
         let log = log.cleared(alloc);
@@ -150,7 +148,7 @@ impl<'a, 's, 'c, C: GroupCalls> Round<'a, 's, 'c, C> {
     ) -> Result<(ShortResult<'a>, HeapLog), AllocError>
         requires there { group < self.now.last }
         requires log { (heap_log log).uniform ≡ (setup_of self.now.launch.now).range.uniform }
-        ensures came { IfOk result (λ t. IsOfGroup (launch_of (setup_of self.now.launch.now) (bytes_in self.now.buffers.now)) group t.0) }
+        ensures came { IfOk result (λ t. IsOfGroup (launch_in (setup_of self.now.launch.now) self.now.buffers.now) group t.0) }
         ensures log { IfOk result (λ t. (heap_log t.1).uniform ≡ (setup_of self.now.launch.now).range.uniform) }
     {
         self.calls.before(group);
@@ -170,7 +168,7 @@ impl<'a, 's, 'c, C: GroupCalls> Round<'a, 's, 'c, C> {
     ) -> Result<UnitResults<'a>, AllocError>
         requires order { first ≤ last }
         requires there { last ≤ self.now.last }
-        ensures { IfOk result (λ came. (came.unit ≡ unit) × AreOfSome (launch_of (setup_of self.now.launch.now) (bytes_in self.now.buffers.now)) first last came.results.items came.stopped) }
+        ensures { IfOk result (λ came. (came.unit ≡ unit) × AreOfSome (launch_in (setup_of self.now.launch.now) self.now.buffers.now) first last came.results.items came.stopped) }
     {
         let mut log = self.spares.take(alloc, self.launch.range().uniform)?;
         let mut results = Vec::with_capacity(alloc, (last - first) as usize)?;
@@ -202,8 +200,8 @@ impl<'a, 's, 'c, C: GroupCalls> Round<'a, 's, 'c, C> {
         alloc: Global,
         came: Result<Vec<UnitResults<'a>>, AllocError>,
     ) -> Result<Results<'a>, AllocError>
-        requires { IfOk came (λ v. AreResults self.now.count (IsOfUnit (launch_of (setup_of self.now.launch.now) (bytes_in self.now.buffers.now)) self.now.first self.now.last self.now.each) (λ unit. unit.stopped) 0 v.items) }
-        ensures { IfOk result (λ v. AreOfRound (launch_of (setup_of self.now.launch.now) (bytes_in self.now.buffers.now)) self.now.last self.now.first v.items) }
+        requires { IfOk came (λ v. AreResults self.now.count (IsOfUnit (launch_in (setup_of self.now.launch.now) self.now.buffers.now) self.now.first self.now.last self.now.each) (λ unit. unit.stopped) 0 v.items) }
+        ensures { IfOk result (λ v. AreOfRound (launch_in (setup_of self.now.launch.now) self.now.buffers.now) self.now.last self.now.first v.items) }
     {
         let units = came?;
         one_after_another(alloc, units, (self.last - self.first) as usize)
@@ -215,9 +213,9 @@ impl<'a, C: GroupCalls + Sync> Work for Round<'a, '_, '_, C> {
 
     ghost count = { λ w. w.count };
 
-    ghost gives = { λ w n came. IsOfUnit (launch_of (setup_of w.launch.now) (bytes_in w.buffers.now)) w.first w.last w.each n came };
+    ghost gives = { λ w n came. IsOfUnit (launch_in (setup_of w.launch.now) w.buffers.now) w.first w.last w.each n came };
 
-    ghost stops = { λ w n. IsStoppingAmong (launch_of (setup_of w.launch.now) (bytes_in w.buffers.now)) (unit_at w.first w.last w.each n) (unit_at w.first w.last w.each (suc n)) };
+    ghost stops = { λ w n. IsStoppingAmong (launch_in (setup_of w.launch.now) w.buffers.now) (unit_at w.first w.last w.each n) (unit_at w.first w.last w.each (suc n)) };
 
     ghost number_of = { λ w came. came.unit };
 

@@ -8,7 +8,7 @@ use crate::units::{Results, ShortResult};
 use clmodel::schedule::{EventRun, Schedule};
 use group_run::GroupEnd;
 use shadow::GroupAccesses;
-use spaces::Overlay;
+use spaces::PartOverlay;
 
 /// How many bytes the results of a round are to take, about; those of two rounds wait at a time.
 const ROUND_BYTES: usize = 7_340_032;
@@ -41,7 +41,7 @@ const LEAST_EACH: u32 = 2;
 const LAST_EACH: u32 = 4;
 
 /// How many bytes the changes of a buffer take. One step for each page that changed.
-fn changed_bytes(buffer: &Overlay<'_>) -> usize {
+fn changed_bytes(buffer: &PartOverlay<'_>) -> usize {
     let pages = buffer.changed();
     let mut lowest = usize::MAX;
     let mut highest = 0;
@@ -57,7 +57,7 @@ fn changed_bytes(buffer: &Overlay<'_>) -> usize {
 }
 
 /// How many bytes the changes of all buffers take.
-fn changed_bytes_of(buffers: &Vec<Overlay<'_>>) -> usize {
+fn changed_bytes_of(buffers: &Vec<PartOverlay<'_>>) -> usize {
     let mut bytes: usize = 0;
     for buffer in buffers {
         bytes = bytes.saturating_add(changed_bytes(buffer));
@@ -70,6 +70,7 @@ fn bytes_of(came: &ShortResult<'_>) -> usize {
     let changes = match &came.end {
         GroupEnd::Done(spaces) => changed_bytes_of(spaces),
         GroupEnd::Stopped(_) => 0,
+        GroupEnd::Unset(_, _, spaces) => changed_bytes_of(spaces),
     };
     came.log
         .len()

@@ -1,11 +1,9 @@
 //! The run of a launch by several workers.
 
 ghost use Rattle.std.specs.Prelude.{◌≤◌, IfOk};
-ghost use Rattle.clmodel.specs.Next.{launch_of};
 ghost use Rattle.item_step.specs.Launches.{setup_of};
-ghost use Rattle.launches.specs.Groups.{HasGroups};
-ghost use Rattle.group_join.specs.Ends.{EndsAs};
-ghost use Rattle.spaces.specs.Buffers.{bytes_in};
+ghost use Rattle.launches.specs.Groups.{HasGroups, launch_in};
+ghost use Rattle.group_join.specs.Ends.{EndsIn};
 
 use crate::overlap::{join_and_run, run_round};
 use crate::round_size::{first_round, next_round};
@@ -33,7 +31,7 @@ fn run_rounds<G: Gate, R: Threads + Wait + Sync>(
 ) -> Result<LaunchEnd, AllocError>
     requires whole { HasGroups (setup_of launch.now) }
     requires workers { (1 ≤ workers) × (workers ≤ 16) }
-    ensures { IfOk result (EndsAs (launch_of (setup_of launch.now) (bytes_in buffers.now))) }
+    ensures { IfOk result (EndsIn (setup_of launch.now) buffers.now) }
 {
     let spares = SpareLogs::new(alloc)?;
     let groups = group_count(launch);
@@ -78,7 +76,7 @@ pub fn run_parallel<G: Gate, R: Threads + Wait + Sync>(
 ) -> Result<LaunchEnd, AllocError>
     requires whole { HasGroups (setup_of launch.now) }
     requires workers { (1 ≤ workers) × (workers ≤ 16) }
-    ensures { IfOk result (EndsAs (launch_of (setup_of launch.now) (bytes_in buffers.now))) }
+    ensures { IfOk result (EndsIn (setup_of launch.now) buffers.now) }
 {
     if workers == 1 {
         run_launch_around(alloc, launch, buffers, gate)

@@ -5,12 +5,12 @@ ghost use Rattle.workers.specs.Results.{all_results};
 
 use group_run::GroupResult;
 use shadow::AccessSummary;
-use spaces::Overlay;
+use spaces::PartOverlay;
 use std::alloc::{AllocError, Global};
 
 /// The result of a group. In place of its log it has the accesses that tell other groups something new: the join asks
 /// for no more.
-pub(crate) type ShortResult<'a> = GroupResult<Overlay<'a>, AccessSummary>;
+pub(crate) type ShortResult<'a> = GroupResult<PartOverlay<'a>, AccessSummary>;
 
 /// The results of groups, in their order.
 pub(crate) type Results<'a> = Vec<ShortResult<'a>>;

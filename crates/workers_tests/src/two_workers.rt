@@ -33,7 +33,7 @@ fn is_clean(reply: &Reply) -> bool {
 fn has_sums(outcome: &Outcome) -> bool {
     match outcome {
         Outcome::Clean(contents) => match contents.get(2) {
-            Some(bytes) => bytes.as_slice() == SUMS.as_slice(),
+            Some(contents) => contents.bytes.as_slice() == SUMS.as_slice(),
             None => false,
         },
         _ => false,

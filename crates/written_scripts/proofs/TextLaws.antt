@@ -108,7 +108,7 @@ file_told files line name path made told named e c =
 
 -- a command as plain scripts have it that isn't a program
 plain_told : (line : List ℕ) (told : Command) → IsTrue (not (is_program told)) → IsText version.Three (plain line) told → HasText line told
-plain_told line (command.Buffer name size) p h = h
+plain_told line (command.Buffer name size unset) p h = h
 plain_told line (command.Write buffer offset bytes) p h = (h.0, h.1, h.2.0, h.2.1)
 plain_told line (command.Read buffer offset count) p h = (h.0, h.1, h.2)
 plain_told line (command.Fill buffer offset count pattern) p h = (h.0, h.1, h.2, h.3.0, h.3.1)
@@ -122,7 +122,7 @@ plain_told line (command.Launch kernel range orders) p h = h
 numbers_told : (line : List ℕ) (told : Command) → IsNumbersText (plain line) told → HasText line told
 numbers_told line (command.Write buffer offset bytes) (n, o, (kind, numbers, are, is)) = (n, o, some_numbers kind numbers bytes are, are.few)
 numbers_told line (command.Fill buffer offset count pattern) (n, o, k, (kind, numbers, are, is)) = (n, o, k, some_numbers kind numbers pattern are, are.few)
-numbers_told line (command.Buffer name size) h = absurd h
+numbers_told line (command.Buffer name size unset) h = absurd h
 numbers_told line (command.Read buffer offset count) h = absurd h
 numbers_told line (command.Copy source offset target target_offset count) h = absurd h
 numbers_told line (command.Release name) h = absurd h

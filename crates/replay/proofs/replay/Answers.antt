@@ -1,36 +1,38 @@
-use Rattle.std.proofs.Common.{◌∙◌, ℕ, Some, map, ap, ap₂, sym, subst}
+use Rattle.std.proofs.Common.{◌∙◌, ℕ, map, ap, ap₂, sym, subst}
 use Rattle.std.specs.Bool.{Decides}
 use Rattle.std.proofs.lemmas.Result.{IfOk-weaker}
 use Rattle.clmodel.specs.Launch.{Launch}
 use Rattle.clmodel.specs.Law.{Reaches}
-use Rattle.clmodel.specs.Next.{launch_of}
 use Rattle.clmodel.specs.Outcome.{events_of}
 use Rattle.clmodel.specs.Run.{start}
 use Rattle.clmodel.specs.Setup.{buffer_names}
 use Rattle.item_step.specs.Launches.{setup_of, started}
 use Rattle.item_step.specs.Running.{Running}
-use Rattle.launches.specs.Groups.{IsRunnable, filled}
-use Rattle.spaces.specs.Buffers.{bytes_in}
+use Rattle.launches.specs.Groups.{IsRunnable, filled, launch_in}
+use Rattle.clmodel.specs.Cells.{held_cells}
+use Rattle.launches.proofs.Filled.{filled_in}
+use Rattle.spaces.specs.Buffers.{bytes_in, flags_in}
 use Rattle.launches.specs.declared.loaded.LoadedLaunch.{LoadedLaunch}
 use Rattle.replay.specs.States.{IsAt}
 use Rattle.replay.proofs.Showing.{never}
-use Rattle.replay.proofs.Reaching.{never_reaches, reaches, map_map, played, unplayed}
+use Rattle.replay.proofs.Reaching.{never_reaches, reaches, played, unplayed}
 use Rattle.replay.proofs.replay.Goals as goal
 
 pub new-requires-clause-runnable : goal.new-requires-clause-runnable
 new-requires-clause-runnable c =
-    let same = ap₂ (λ x b. launch_of (setup_of x) (bytes_in b)) c.new-loaded.ensures.launch c.new-loaded.ensures.buffers in
-    subst IsRunnable (sym same) (c.setups_are_runnable.ensures (setup_of c.args.launch.now) (bytes_in c.args.buffers.now) c.group_count-groups.ensures.some c.requires)
+    let same = ap₂ (λ x b. launch_in (setup_of x) b) c.new-loaded.ensures.launch c.new-loaded.ensures.buffers in
+    subst IsRunnable (sym same) (c.setups_are_runnable.ensures (setup_of c.args.launch.now) c.args.buffers.now c.group_count-groups.ensures.some c.requires)
 
 pub new-requires-clause-filled : goal.new-requires-clause-filled
 new-requires-clause-filled c =
-    let same = ap₂ (λ x b. launch_of (setup_of x) (bytes_in b)) c.new-loaded.ensures.launch c.new-loaded.ensures.buffers in
-    let bytes = bytes_in c.args.buffers.now in
-    c.in_ok-memory.ensures ∙ ap (map (λ name. map Some (bytes name))) c.buffer_names.ensures ∙ map_map (map Some) bytes (buffer_names (setup_of c.args.launch.now)) ∙ ap filled (sym same)
+    let same = ap₂ (λ x b. launch_in (setup_of x) b) c.new-loaded.ensures.launch c.new-loaded.ensures.buffers in
+    let buffers = c.args.buffers.now in
+    c.in_ok-memory.ensures ∙ ap (map (λ name. held_cells (bytes_in buffers name) (flags_in buffers name))) c.buffer_names.ensures
+    ∙ sym (filled_in (setup_of c.args.launch.now) buffers) ∙ ap filled (sym same)
 
 -- the launch of a loaded one
 abbrev of_loaded : LoadedLaunch → Launch
-of_loaded loaded = launch_of (setup_of loaded.launch.now) (bytes_in loaded.buffers.now)
+of_loaded loaded = launch_in (setup_of loaded.launch.now) loaded.buffers.now
 
 -- the machines as which its items begin
 abbrev of_starts : LoadedLaunch → ℕ → Running
@@ -38,7 +40,7 @@ of_starts loaded = started loaded.launch.now
 
 pub returns-then-not-branch : goal.returns-then-not-branch
 returns-then-not-branch c =
-    let same = ap₂ (λ x b. launch_of (setup_of x) (bytes_in b)) c.new-loaded.ensures.launch c.new-loaded.ensures.buffers in
+    let same = ap₂ (λ x b. launch_in (setup_of x) b) c.new-loaded.ensures.launch c.new-loaded.ensures.buffers in
     let l = of_loaded c.new-loaded.result in
     let r = of_starts c.new-loaded.result in
     let events = events_of c.args.schedule.now in
@@ -61,7 +63,7 @@ shows-requires c =
 
 pub returns : goal.returns
 returns c =
-    let same = ap₂ (λ x b. launch_of (setup_of x) (bytes_in b)) c.new-loaded.ensures.launch c.new-loaded.ensures.buffers in
+    let same = ap₂ (λ x b. launch_in (setup_of x) b) c.new-loaded.ensures.launch c.new-loaded.ensures.buffers in
     let l = of_loaded c.new-loaded.result in
     let r = of_starts c.new-loaded.result in
     let events = events_of c.args.schedule.now in

@@ -29,4 +29,5 @@ invariant_of-self c =
       kept =
           kept_after_kernel device.programs device.kernels c.insert.new.self c.args.name compiled c.insert.result device.kept (made_is_compiled device.programs compiled checked found lowered code few)
           c.insert.ensures.ok c.insert.ensures.err;
+      fit = device.fit;
     }

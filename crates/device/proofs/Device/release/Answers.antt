@@ -18,6 +18,7 @@ invariant_of-self c =
           subst (λ (ps : Table Checked). AllCompiled ps c.remove-3.new.self) (sym c.remove-2.ensures)
           (subst (λ (ks : Table CompiledKernel). AllCompiled (remove_entry (is c.args.name.now) device.programs) ks) (sym c.remove-3.ensures)
           (kept_with_release device.programs device.kernels c.args.name.now device.kept (unheld_of (machine_of device) device.programs c.args.name.now refl free)));
+      fit = c.remove.ensures.fit;
     }
 
 pub returns-clause-ok : goal.returns-clause-ok
@@ -26,6 +27,6 @@ returns-clause-ok c =
     let old : Machine = machine_of device in
     let name = c.args.name.now in
     release_answers old _ name (sym c.is_used.ensures ∙ c.if-not-is_used.false) (sym c.is_in_use.ensures ∙ c.if-is_in_use.false)
-    (released old _ _ _ name c.remove.ensures
+    (released old _ _ _ _ name c.remove.ensures.bytes c.remove.ensures.flags
     (ap (map (λ (e : List ℕ × Checked). (e.0, program e.1.tree))) c.remove-2.ensures ∙ remove_program device.programs name)
     (ap (map (λ (e : List ℕ × CompiledKernel). (e.0, e.1.kernel))) c.remove-3.ensures ∙ remove_kernel device.kernels name))

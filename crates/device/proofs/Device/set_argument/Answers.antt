@@ -17,6 +17,7 @@ invariant_of-self c =
           subst (λ (ks : Table CompiledKernel). AllCompiled device.programs ks)
           (sym (argument_set device.kernels c.set_argument.new.kernels c.args.name.now c.in-Some.compiled.now c.args.index c.args.argument c.in-Some.ensures.kept c.set_argument.ensures))
           (kept_with_argument device.programs device.kernels c.args.name.now c.in-Some.compiled.now c.args.index c.args.argument device.kept c.in-Some.ensures.kept);
+      fit = device.fit;
     }
 
 pub returns-clause-ok : goal.returns-clause-ok

@@ -18,3 +18,10 @@ returns-in-PrivateBounds c =
     (λ (f : Fault). IfOk c.private_reasons.result
     (λ why. AreReasons (group_items (setup_of c.args.context.now.launch.now).range) c.args.played.now f c.args.memory.now c.args.budget why.items))
     (sym c.in-PrivateBounds.is) c.private_reasons.ensures
+
+pub returns-in-Unset : goal.returns-in-Unset
+returns-in-Unset c =
+    subst
+    (λ (f : Fault). IfOk c.unset_reasons.result
+    (λ why. AreReasons (group_items (setup_of c.args.context.now.launch.now).range) c.args.played.now f c.args.memory.now c.args.budget why.items))
+    (sym c.in-Unset.is) c.unset_reasons.ensures

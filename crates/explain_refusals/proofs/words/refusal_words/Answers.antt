@@ -66,3 +66,7 @@ returns-in-InUse c = ap refusal_word c.in-InUse.is
 pub returns-in-OutOfMemory : goal.returns-in-OutOfMemory
 unfolding digits
 returns-in-OutOfMemory c = ap refusal_word c.in-OutOfMemory.is
+
+pub returns-in-UnsetBytes : goal.returns-in-UnsetBytes
+unfolding digits
+returns-in-UnsetBytes c = ap refusal_word c.in-UnsetBytes.is

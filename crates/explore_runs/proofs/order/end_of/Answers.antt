@@ -1,4 +1,4 @@
-use Rattle.std.proofs.Common.{Some, map, sym, subst}
+use Rattle.std.proofs.Common.{sym, subst}
 use Rattle.clmodel.specs.Law.{Leaves}
 use Rattle.ordered_play.specs.Watched.{IsWatched}
 use Rattle.explore_runs.proofs.Going.{ends}
@@ -12,5 +12,5 @@ returns g c =
     let at = c.all_ended.ensures.same led.state led.holds in
     let complete = c.in_ok-all_ended.ensures.ended led.state led.holds c.if-not-branch.false in
     let fits = IsWatched {D = g.row.D.Denot} g.D.Described.launch g.D.Runnable.started l r c.args.watched in
-    let left = ends l fits c.args.runs c.into_buffers.result.items c.in_ok-buffers.buffers.items led complete (c.into_buffers.ensures l r led.state at) c.in_ok-buffers.ensures in
-    (subst (λ es. Leaves l es (map (λ bytes. map Some bytes) c.in_ok-buffers.buffers.items)) (sym c.into_schedule.ensures.events) left, c.into_schedule.ensures.merged)
+    let left = ends l fits c.args.runs c.into_buffers.result.items led complete (c.into_buffers.ensures l r led.state at) in
+    (subst (λ es. Leaves l es c.into_buffers.result.items) (sym c.into_schedule.ensures.events) left, c.into_schedule.ensures.merged)

@@ -8,4 +8,4 @@ returns-in-Err g c = refused_there (machine_of c.args.device.now) c.args.kernel.
 
 pub returns : goal.returns
 returns g c =
-    explored_there (machine_of c.args.device.now) c.args.kernel.now c.args.range.now c.in-Ok.launch c.buffers.result.now c.in_ok-findings.findings c.in-Ok.ensures.prepared c.buffers.ensures c.in_ok-findings.ensures
+    explored_there (machine_of c.args.device.now) c.args.kernel.now c.args.range.now c.in-Ok.launch c.buffers.result.now c.in_ok-findings.findings c.in-Ok.ensures.prepared c.buffers.ensures.bytes c.buffers.ensures.flags c.in_ok-findings.ensures

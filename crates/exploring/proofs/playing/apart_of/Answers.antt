@@ -3,7 +3,7 @@ use Rattle.explore_runs.specs.Explored.{AreLeft}
 use Rattle.exploring.proofs.playing.apart_of.Goals as goal
 
 pub returns-in-Apart : goal.returns-in-Apart
-returns-in-Apart c = λ bytes left.
+returns-in-Apart c = λ buffers left.
     let apart = subst (AreLeft _) c.in-Apart.is left in (
       apart.0,
       apart.1,

@@ -1,17 +1,18 @@
 use Rattle.std.proofs.Common.{◌≡◌, ◌∙◌, ℕ, ◌++◌, None, Some, map, take, ap, ap₂, sym, subst}
 use Rattle.clmodel.specs.Launch.{Launch}
 use Rattle.clmodel.specs.Law.{Reaches}
-use Rattle.clmodel.specs.Next.{launch_of}
 use Rattle.clmodel.specs.Outcome.{events_of}
 use Rattle.clmodel.specs.Run.{Events, after, start}
 use Rattle.clmodel.specs.Setup.{buffer_names}
 use Rattle.clmodel.specs.declared.fault.Fault.{Fault}
 use Rattle.item_step.specs.Launches.{setup_of, started}
 use Rattle.item_step.specs.Running.{Running}
-use Rattle.launches.specs.Groups.{IsRunnable, filled}
+use Rattle.launches.specs.Groups.{IsRunnable, filled, launch_in}
 use Rattle.launches.specs.declared.loaded.LoadedLaunch.{LoadedLaunch}
 use Rattle.replay.proofs.Reaching.{map_map, never_reaches}
-use Rattle.spaces.specs.Buffers.{bytes_in}
+use Rattle.clmodel.specs.Cells.{held_cells}
+use Rattle.launches.proofs.Filled.{filled_in}
+use Rattle.spaces.specs.Buffers.{bytes_in, flags_in}
 use Rattle.fault_play.specs.Marks.{Lead, events_in}
 use Rattle.replay.specs.Spots.{Finds, IsPairOf}
 use Rattle.replay.specs.States.{IsAt}
@@ -22,7 +23,7 @@ use Rattle.fault_play.proofs.played.play.Goals as goal
 
 -- the launch of a loaded one
 abbrev of_loaded : LoadedLaunch → Launch
-of_loaded loaded = launch_of (setup_of loaded.launch.now) (bytes_in loaded.buffers.now)
+of_loaded loaded = launch_in (setup_of loaded.launch.now) loaded.buffers.now
 
 -- the machines as which its items begin
 abbrev of_starts : LoadedLaunch → ℕ → Running
@@ -35,18 +36,19 @@ mark_schedule-requires c =
 
 pub new-requires-clause-runnable : goal.new-requires-clause-runnable
 new-requires-clause-runnable c =
-    let same = ap₂ (λ x b. launch_of (setup_of x) (bytes_in b)) c.new-loaded.ensures.launch c.new-loaded.ensures.buffers in
-    subst IsRunnable (sym same) (c.setups_are_runnable.ensures (setup_of c.args.launch.now) (bytes_in c.args.buffers.now) c.group_count-groups.ensures.some c.requires)
+    let same = ap₂ (λ x b. launch_in (setup_of x) b) c.new-loaded.ensures.launch c.new-loaded.ensures.buffers in
+    subst IsRunnable (sym same) (c.setups_are_runnable.ensures (setup_of c.args.launch.now) c.args.buffers.now c.group_count-groups.ensures.some c.requires)
 
 pub new-requires-clause-filled : goal.new-requires-clause-filled
 new-requires-clause-filled c =
-    let same = ap₂ (λ x b. launch_of (setup_of x) (bytes_in b)) c.new-loaded.ensures.launch c.new-loaded.ensures.buffers in
-    let bytes = bytes_in c.args.buffers.now in
-    c.in_ok-memory.ensures ∙ ap (map (λ name. map Some (bytes name))) c.buffer_names.ensures ∙ map_map (map Some) bytes (buffer_names (setup_of c.args.launch.now)) ∙ ap filled (sym same)
+    let same = ap₂ (λ x b. launch_in (setup_of x) b) c.new-loaded.ensures.launch c.new-loaded.ensures.buffers in
+    let buffers = c.args.buffers.now in
+    c.in_ok-memory.ensures ∙ ap (map (λ name. held_cells (bytes_in buffers name) (flags_in buffers name))) c.buffer_names.ensures
+    ∙ sym (filled_in (setup_of c.args.launch.now) buffers) ∙ ap filled (sym same)
 
 pub returns-then-not-branch-clause-none : goal.returns-then-not-branch-clause-none
 returns-then-not-branch-clause-none c = λ other.
-    let same = ap₂ (λ x b. launch_of (setup_of x) (bytes_in b)) c.new-loaded.ensures.launch c.new-loaded.ensures.buffers in
+    let same = ap₂ (λ x b. launch_in (setup_of x) b) c.new-loaded.ensures.launch c.new-loaded.ensures.buffers in
     let l = of_loaded c.new-loaded.result in
     let r = of_starts c.new-loaded.result in
     subst (λ z. Reaches z (events_of c.args.schedule.now) other → ⊥) same
@@ -65,7 +67,7 @@ moved l h r b m n events f first second most p launch starts size out =
 
 pub returns-clause-played : goal.returns-clause-played
 returns-clause-played c =
-    let same = ap₂ (λ x b. launch_of (setup_of x) (bytes_in b)) c.new-loaded.ensures.launch c.new-loaded.ensures.buffers in
+    let same = ap₂ (λ x b. launch_in (setup_of x) b) c.new-loaded.ensures.launch c.new-loaded.ensures.buffers in
     let l = of_loaded c.new-loaded.result in
     let r = of_starts c.new-loaded.result in
     let at = IsAt {D = LoadedLaunch} of_loaded of_starts l r c.mark_schedule.new.player in

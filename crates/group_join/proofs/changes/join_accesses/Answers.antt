@@ -5,7 +5,7 @@ use Rattle.std.proofs.lemmas.List.{take_all}
 use Rattle.group_run.specs.Logs.{accesses_of}
 use Rattle.shadow.specs.Seen.{IsFootprint}
 use Rattle.spaces.specs.Changes.{all_with_changes}
-use Rattle.spaces.specs.Overlay.{Overlaid}
+use Rattle.spaces.specs.Parts.{Parted}
 use Rattle.group_join.specs.Changes.{AreChanged, AreUpdates, changes_of}
 use Rattle.group_join.proofs.Entries.{entry_at, accesses_more, changes_more}
 use Rattle.group_join.proofs.Updates.{kept_here, after_next, next_within}
@@ -14,7 +14,7 @@ use Rattle.group_join.proofs.changes.join_accesses.Goals as goal
 pub loop-place-preserved : goal.loop-place-preserved
 loop-place-preserved g c =
     let entries = (g.L.GroupAccesses.listed c.args.log.now) in
-    let own = map (λ (space : Overlaid). space.bytes) c.args.own.now in
+    let own = map (λ (space : Parted). space.bytes) c.args.own.now in
     let rows = map (λ (row : Bor (List ℕ)). row.now) c.args.first.now in
     let i = c.loop-place.place in
     let n = c.loop-place.next in

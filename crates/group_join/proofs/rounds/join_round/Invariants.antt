@@ -1,8 +1,8 @@
 use Rattle.std.specs.Vec.Iter.{into_iter_items}
-use Rattle.clmodel.specs.Next.{launch_of}
+use Rattle.launches.specs.Groups.{launch_in}
 use Rattle.item_step.specs.Launches.{setup_of}
-use Rattle.spaces.specs.Buffers.{bytes_in}
-use Rattle.spaces.specs.Overlay.{Overlaid}
+use Rattle.spaces.specs.Parts.{Parted}
+use Rattle.group_join.specs.Ends.{flags_of}
 use Rattle.group_join.specs.Launches.{AreResultsTo}
 use Rattle.group_join.specs.JoinedGroups.{HoldsGroups}
 use Rattle.group_join.proofs.rounds.join_round.Given as goal
@@ -10,6 +10,6 @@ use Rattle.group_join.proofs.rounds.join_round.Given as goal
 abbrev pub invariant-loop-group : goal.invariant-loop-group
 invariant-loop-group g l =
     record {
-      held : HoldsGroups (launch_of (setup_of l.fn.launch) (bytes_in l.fn.buffers)) l.group l.so_far;
-      rest : AreResultsTo (λ (overlay : Overlaid). overlay.bytes) g.L.GroupAccesses.listed g.L.GroupAccesses.has_last (launch_of (setup_of l.fn.launch) (bytes_in l.fn.buffers)) l.fn.last l.group (into_iter_items l.results);
+      held : HoldsGroups (launch_in (setup_of l.fn.launch) l.fn.buffers) (flags_of (setup_of l.fn.launch) l.fn.buffers) l.group l.so_far;
+      rest : AreResultsTo (λ (overlay : Parted). overlay.bytes) g.L.GroupAccesses.listed g.L.GroupAccesses.has_last (launch_in (setup_of l.fn.launch) l.fn.buffers) l.fn.last l.group (into_iter_items l.results);
     }

@@ -1,24 +1,23 @@
 use Rattle.std.proofs.Common.{suc, ◌*◌, ◌≤◌, ◌∙◌, sym, subst, add-one}
 use Rattle.std.proofs.Math.Nat.{mul-le-mul_right}
 use Rattle.clmodel.specs.Launch.{Launch}
-use Rattle.clmodel.specs.Next.{launch_of}
 use Rattle.item_step.specs.Launches.{setup_of}
+use Rattle.launches.specs.Groups.{launch_in}
 use Rattle.joining.specs.Steps.{HasGroup}
 use Rattle.access_list.specs.ListLogs.{list_log}
 use Rattle.group_join.specs.Launches.{AreResults}
 use Rattle.group_join.proofs.Ending.{below_there}
-use Rattle.spaces.specs.Buffers.{bytes_in}
 use Rattle.group_join.proofs.Leading.{Lead, lead_more, lead_stopped, lead_all}
 use Rattle.refused_calls.proofs.one_thread.results_of.Goals as goal
 
 pub loop-group-init : goal.loop-group-init
 loop-group-init c =
-    let l : Launch = launch_of (setup_of c.args.launch.now) (bytes_in c.args.buffers.now) in
+    let l : Launch = launch_in (setup_of c.args.launch.now) c.args.buffers.now in
     subst (λ results. Lead (λ overlay. overlay.bytes) list_log l 0 results) (sym c.new-results.ensures.items) (λ rest are. are)
 
 pub returns-then-stopped : goal.returns-then-stopped
 returns-then-stopped c =
-    let l : Launch = launch_of (setup_of c.args.launch.now) (bytes_in c.args.buffers.now) in
+    let l : Launch = launch_in (setup_of c.args.launch.now) c.args.buffers.now in
     let there : HasGroup l c.loop-group.group = below_there c.loop-group.group c.args.groups l.group_size l.items c.requires.count c.requires.some c.loop-group-test.true in
     subst (λ results. AreResults (λ overlay. overlay.bytes) list_log l 0 results) (sym c.in_ok-push.ensures.items)
     (lead_stopped (λ overlay. overlay.bytes) list_log l c.loop-group.group c.loop-group.results.items c.in_ok-came.came c.loop-group.invariant
@@ -26,7 +25,7 @@ returns-then-stopped c =
 
 pub loop-group-preserved : goal.loop-group-preserved
 loop-group-preserved c =
-    let l : Launch = launch_of (setup_of c.args.launch.now) (bytes_in c.args.buffers.now) in
+    let l : Launch = launch_in (setup_of c.args.launch.now) c.args.buffers.now in
     let there : HasGroup l c.loop-group.group = below_there c.loop-group.group c.args.groups l.group_size l.items c.requires.count c.requires.some c.loop-group-test.true in
     subst (λ n. Lead (λ overlay. overlay.bytes) list_log l n c.push.new.self.items) (sym (add-one c.loop-group.group))
     (subst (λ results. Lead (λ overlay. overlay.bytes) list_log l (suc c.loop-group.group) results) (sym c.in_ok-push.ensures.items)
@@ -35,7 +34,7 @@ loop-group-preserved c =
 
 pub returns : goal.returns
 returns c =
-    let l : Launch = launch_of (setup_of c.args.launch.now) (bytes_in c.args.buffers.now) in
+    let l : Launch = launch_in (setup_of c.args.launch.now) c.args.buffers.now in
     let all : c.args.groups * l.group_size ≤ c.loop-group.group * l.group_size = mul-le-mul_right l.group_size c.loop-group-test.false in
     lead_all (λ overlay. overlay.bytes) list_log l c.loop-group.group c.loop-group.results.items c.loop-group.invariant
     (subst (λ n. n ≤ c.loop-group.group * l.group_size) c.requires.count all)

@@ -1,8 +1,8 @@
 use Rattle.std.proofs.Common.{◌-◌, ◌≤◌}
-use Rattle.clmodel.specs.Next.{launch_of}
+use Rattle.launches.specs.Groups.{launch_in}
 use Rattle.item_step.specs.Launches.{setup_of}
+use Rattle.group_join.specs.Ends.{flags_of}
 use Rattle.group_join.specs.JoinedGroups.{HoldsGroups}
-use Rattle.spaces.specs.Buffers.{bytes_in}
 use Rattle.workers.specs.Results.{AreOfRound}
 use Rattle.workers.proofs.run.run_rounds.Given as goal
 
@@ -12,8 +12,8 @@ decreases-loop-last g l = l.groups - l.last
 abbrev pub invariant-loop-last : goal.invariant-loop-last
 invariant-loop-last g l =
     record {
-      held : HoldsGroups (launch_of (setup_of l.launch) (bytes_in l.buffers)) l.first l.so_far;
-      waiting : AreOfRound (launch_of (setup_of l.launch) (bytes_in l.buffers)) l.last l.first l.results.items;
+      held : HoldsGroups (launch_in (setup_of l.launch) l.buffers) (flags_of (setup_of l.launch) l.buffers) l.first l.so_far;
+      waiting : AreOfRound (launch_in (setup_of l.launch) l.buffers) l.last l.first l.results.items;
       order : l.first ≤ l.last;
       there : l.last ≤ l.groups;
     }

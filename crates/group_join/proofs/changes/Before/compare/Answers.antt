@@ -7,7 +7,7 @@ use Rattle.clmodel.specs.declared.access.Region.TheVariants as region
 use Rattle.joining.specs.Memory.{wrote}
 use Rattle.shadow.specs.Seen.{IsFootprint, met_at}
 use Rattle.spaces.specs.Changes.{all_with_changes}
-use Rattle.spaces.specs.Overlay.{Overlaid}
+use Rattle.spaces.specs.Parts.{Parted}
 use Rattle.group_join.specs.Changes.{value_of, AreUpdates}
 use Rattle.group_join.specs.Meetings.{AreOthers}
 use Rattle.group_join.proofs.Entries.{entry_at, miss_at, miss_more, first_at}
@@ -19,7 +19,7 @@ pub loop-place-preserved : goal.loop-place-preserved
 loop-place-preserved g c =
     let entries = (g.L.GroupAccesses.listed c.args.log.now) in
     let last = g.L.GroupAccesses.has_last c.args.log.now in
-    let own = map (λ (space : Overlaid). space.bytes) c.args.self.now.own.now in
+    let own = map (λ (space : Parted). space.bytes) c.args.self.now.own.now in
     let value : List Access → ℕ → Access → ℕ → ℕ
     = λ kept. value_of (map (λ (row : Bor (List ℕ)). row.now) c.args.self.now.first.now) (all_with_changes (map (λ (row : Bor (List ℕ)). row.now) c.args.self.now.first.now) c.args.self.now.lower.now) (λ n b. wrote kept (region.Buffer n) b) own in
     let i = c.loop-place.place in
@@ -54,7 +54,7 @@ returns-clause-met g c = λ kept h others. λ k e b q. c.loop-place.invariant.mi
 
 pub returns-clause-updates : goal.returns-clause-updates
 returns-clause-updates g c = λ kept h.
-    let own = map (λ (space : Overlaid). space.bytes) c.args.self.now.own.now in
+    let own = map (λ (space : Parted). space.bytes) c.args.self.now.own.now in
     let value : ℕ → Access → ℕ → ℕ = value_of (map (λ (row : Bor (List ℕ)). row.now) c.args.self.now.first.now) (all_with_changes (map (λ (row : Bor (List ℕ)). row.now) c.args.self.now.first.now) c.args.self.now.lower.now) (λ n b. wrote kept (region.Buffer n) b) own in
     subst (λ ys. AreUpdates value own 0 ys c.loop-place.updates.items)
     (take_all c.loop-place.place (g.L.GroupAccesses.listed c.args.log.now) (omega (arith, c.loop-place-test.false, c.len-place-end.ensures))) (c.loop-place.invariant.updates kept h)

@@ -7,13 +7,13 @@ use Rattle.group_join.specs.Comparing.{met_of}
 use Rattle.group_join.specs.JoinedGroups.{contents_of}
 use Rattle.group_join.specs.Meetings.{AreOthers, IsFirstMet}
 use Rattle.group_join.specs.declared.comparing.Compared.{Compared}
-use Rattle.spaces.specs.Overlay.{Overlaid}
+use Rattle.spaces.specs.Parts.{Parted}
 use Rattle.group_join.proofs.Joining.{FindsIn, updates_alone}
 use Rattle.group_join.proofs.joined_groups.JoinedGroups.compare.Goals as goal
 
 pub returns-then-group-eq0-clause-updates : goal.returns-then-group-eq0-clause-updates
 returns-then-group-eq0-clause-updates g c = λ kept h none.
-    updates_alone (map (λ (row : Bor (List ℕ)). row.now) c.args.self.now.first.items) (contents_of c.args.self.now) (map (λ (space : Overlaid). space.bytes) c.args.spaces.now) kept
+    updates_alone (map (λ (row : Bor (List ℕ)). row.now) c.args.self.now.first.items) (contents_of c.args.self.now) (map (λ (space : Parted). space.bytes) c.args.spaces.now) kept
     (g.L.GroupAccesses.listed c.args.log.now) c.new.result.items c.new.ensures.items (none c.if-group-eq0.true)
 
 pub returns-clause-met : goal.returns-clause-met

@@ -8,7 +8,7 @@ use Rattle.group_join.proofs.Ending.{concludes_fault}
 use Rattle.group_join.proofs.joined_groups.JoinedGroups.faulted.Goals as goal
 
 pub returns : goal.returns
-returns c = λ l stopped.
+returns c = λ l flags stopped.
     let old = c.args.self.now.runs.items in
     let runs : c.new-2.result ≡ old = c.new-2.ensures ∙ ap (λ (v : Vec EventRun Global). v.items) c.replace-runs.ensures.value in
-    subst (λ (z : List EventRun). EndsAs l (Faulted c.args.report z)) (sym runs) (concludes_fault l c.args.report old stopped)
+    subst (λ (z : List EventRun). EndsAs l flags (Faulted c.args.report z)) (sym runs) (concludes_fault l flags c.args.report old stopped)

@@ -1,21 +1,23 @@
-use Rattle.std.proofs.Common.{ℕ, List, Some, map, sym, ap, ap₂, ◌∙◌, subst}
-use Rattle.clmodel.specs.Next.{launch_of}
+use Rattle.std.proofs.Common.{ℕ, List, map, sym, ap, ap₂, ◌∙◌, subst}
 use Rattle.item_step.specs.Launches.{setup_of}
-use Rattle.spaces.specs.Buffers.{bytes_in}
-use Rattle.spaces.specs.Changes.{all_with_changes}
-use Rattle.group_join.specs.Ends.{EndsAs}
+use Rattle.spaces.specs.Buffers.{bytes_in, flags_in}
+use Rattle.spaces.specs.Changes.{Changed, all_with_changes}
+use Rattle.group_join.specs.Ends.{all_cells, EndsIn}
 use Rattle.group_join.proofs.launch_end.LaunchEnd.outcome.Goals as goal
 
 pub returns-in_ok-copies-in-Clean : goal.returns-in_ok-copies-in-Clean
 returns-in_ok-copies-in-Clean c =
-    let l = launch_of (setup_of c.args.launch.now) (bytes_in c.args.buffers.now) in
-    let h = subst (EndsAs l) c.in-Clean.is c.requires in (
+    let buffers = c.args.buffers.now in
+    let h = subst (EndsIn (setup_of c.args.launch.now) buffers) c.in-Clean.is c.requires in
+    let cells : List (List ℕ) → List Changed → List Changed → _
+    = λ names changes cleared. all_cells (all_with_changes (map (bytes_in buffers) names) changes) (all_with_changes (map (flags_in buffers) names) cleared) in (
       h.0,
       h.1,
       h.2,
-      h.3 ∙ ap (map (λ (bytes : List ℕ). map Some bytes))
-          (sym (c.in_ok-copies-in-Clean.ensures ∙ ap₂ (λ (names : List (List ℕ)). all_with_changes (map (bytes_in c.args.buffers.now) names)) c.buffer_names-names.ensures c.as_slice.ensures.value)),
+      h.3 ∙ sym (c.in_ok-copies-in-Clean.ensures
+          ∙ ap₂ (λ names changes. cells names changes c.as_slice-2.result.now) c.buffer_names-names.ensures c.as_slice.ensures.value
+          ∙ ap (λ cleared. cells _ c.in-Clean.changes.items cleared) c.as_slice-2.ensures.value),
     )
 
 pub returns-in-Faulted : goal.returns-in-Faulted
-returns-in-Faulted c = subst (EndsAs (launch_of (setup_of c.args.launch.now) (bytes_in c.args.buffers.now))) c.in-Faulted.is c.requires
+returns-in-Faulted c = subst (EndsIn (setup_of c.args.launch.now) c.args.buffers.now) c.in-Faulted.is c.requires

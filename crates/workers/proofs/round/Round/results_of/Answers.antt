@@ -2,9 +2,8 @@ use Rattle.std.proofs.Common.{◌≡◌, Vec, Global, sym, subst}
 use Rattle.std.proofs.lemmas.Result.{IfOk-weaker}
 use Rattle.std.specs.Prelude.{IfOk}
 use Rattle.clmodel.specs.Launch.{Launch}
-use Rattle.clmodel.specs.Next.{launch_of}
+use Rattle.launches.specs.Groups.{launch_in}
 use Rattle.item_step.specs.Launches.{setup_of}
-use Rattle.spaces.specs.Buffers.{bytes_in}
 use Rattle.workers_draw.specs.Groups.{AreResults}
 use Rattle.workers.specs.Results.{AreOfRound, IsOfUnit, all_results}
 use Rattle.workers.specs.declared.units.UnitResults.{UnitResults}
@@ -15,7 +14,7 @@ use Rattle.workers.proofs.round.Round.results_of.Goals as goal
 pub returns : goal.returns
 returns g c =
     let round = c.args.self.now in
-    let launch : Launch = launch_of (setup_of round.launch.now) (bytes_in round.buffers.now) in
+    let launch : Launch = launch_in (setup_of round.launch.now) round.buffers.now in
     let are : AreResults round.count (IsOfUnit launch round.first round.last round.each) (λ (unit : UnitResults). unit.stopped) 0 c.in_ok-units.units.items =
     subst (λ r. IfOk r (λ (v : Vec UnitResults Global). AreResults round.count (IsOfUnit launch round.first round.last round.each) (λ (unit : UnitResults). unit.stopped) 0 v.items)) c.in_ok-units.was c.requires in
     IfOk-weaker c.one_after_another.result (λ (v : Vec Came Global). v.items ≡ all_results c.in_ok-units.units.items) (λ (v : Vec Came Global). AreOfRound launch round.last round.first v.items)

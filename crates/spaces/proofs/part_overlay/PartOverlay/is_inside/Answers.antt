@@ -1,0 +1,10 @@
+use Rattle.std.proofs.Common.{◌+◌, ◌∙◌, sym, ap}
+use Rattle.std.specs.Prelude.{nat_le}
+use Rattle.spaces.specs.Parts.{unset_in}
+use Rattle.spaces.proofs.Parts.{seen_many}
+use Rattle.spaces.proofs.part_overlay.PartOverlay.is_inside.Goals as goal
+
+pub returns : goal.returns
+returns c =
+    let o = c.self.inside in
+    c.is_inside.ensures ∙ ap (nat_le (c.args.at + c.args.count)) (sym (seen_many c.args.self.now o.overlay.base o.flags.row.now (unset_in o.flags) o.overlay.bytes (sym c.self.view_is)))
