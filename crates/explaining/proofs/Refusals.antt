@@ -22,28 +22,15 @@ reason_holds P None h = tt
 reason_holds P (Some found) h = h
 
 pub told_refusal :
-<<<<<<< ours
-    (limits : Limits) (buffers : Table (List ℕ)) (f : Format) (name : List ℕ) (script : PlacedScript) (commands : List Command) (ticket : ℕ) (place : CommandPlace) (refusal : Refusal) (found : Option Found) (told : RefusedCommand) (text : List ℕ)
+    (limits : Limits) (buffers flags : Table (List ℕ)) (f : Format) (name : List ℕ) (script : PlacedScript) (commands : List Command) (ticket : ℕ) (place : CommandPlace) (refusal : Refusal) (found : Option Found) (told : RefusedCommand) (text : List ℕ)
     → IsPlaced script ticket place → TellsRefused name script.text.now ticket place refusal (reason_in found) told
-    → ((command : Command) → slice_get commands ticket ≡ Some command → IfSome found (λ f. Holds limits buffers command f.reason)) → IsRefusalText f told text
-    → TellsRefusal limits buffers f name script commands ticket refusal text
+    → ((command : Command) → slice_get commands ticket ≡ Some command → IfSome found (λ f. Holds limits buffers flags command f.reason)) → IsRefusalText f told text
+    → TellsRefusal limits buffers flags f name script commands ticket refusal text
 told_refusal limits buffers f name script commands ticket place refusal found told text stands tells holds written = record {
   place = place;
   stands = stands;
   told = told;
   tells = subst (λ (why : Option RefusalReason). TellsRefused name script.text.now ticket place refusal why told) (sym tells.why) tells;
-  holds = λ command at. subst (λ (why : Option RefusalReason). IfSome why (Holds limits buffers command)) (sym tells.why) (reason_holds (Holds limits buffers command) found (holds command at));
-=======
-    (limits : Limits) (buffers flags : Table (List ℕ)) (f : Format) (name script : List ℕ) (commands : List Command) (ticket : ℕ) (place : CommandPlace) (refusal : Refusal) (found : Option Found) (told : RefusedCommand) (text : List ℕ)
-    → StandsAt script commands ticket place → TellsRefused name script ticket place refusal (reason_in found) told
-    → ((command : Command) → slice_get commands ticket ≡ Some command → IfSome found (λ f. Holds limits buffers flags command f.reason)) → IsRefusalText f told text
-    → TellsRefusal limits buffers flags f name script commands ticket refusal text
-told_refusal limits buffers flags f name script commands ticket place refusal found told text stands tells holds written = record {
-  place = place;
-  stands = stands;
-  told = told;
-  tells = subst (λ (why : Option RefusalReason). TellsRefused name script ticket place refusal why told) (sym tells.why) tells;
   holds = λ command at. subst (λ (why : Option RefusalReason). IfSome why (Holds limits buffers flags command)) (sym tells.why) (reason_holds (Holds limits buffers flags command) found (holds command at));
->>>>>>> theirs
   written = written;
 }

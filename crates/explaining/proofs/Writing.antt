@@ -77,13 +77,8 @@ pub unbuilt_end :
 unbuilt_end options name script commands done m w u text e = subst (λ (v : Walked). TellsEnd options name script commands done m v text) (sym e) (inl (u.fault, refl))
 
 pub refused_end :
-<<<<<<< ours
     (options : ExplainOptions) (name : List ℕ) (script : PlacedScript) (commands : List Command) (done : List Bool) (m : Machine) (w : Walked) (case : RefusedCase) (text : List ℕ) → w ≡ walked.Refused case
-    → TellsRefusal options.configuration.limits m.buffers options.format name script commands case.ticket case.refusal text → TellsEnd options name script commands done m w text
-=======
-    (options : ExplainOptions) (name script : List ℕ) (commands : List Command) (done : List Bool) (m : Machine) (w : Walked) (case : RefusedCase) (text : List ℕ) → w ≡ walked.Refused case
     → TellsRefusal options.configuration.limits m.buffers m.flags options.format name script commands case.ticket case.refusal text → TellsEnd options name script commands done m w text
->>>>>>> theirs
 refused_end options name script commands done m w case text e h = subst (λ (v : Walked). TellsEnd options name script commands done m v text) (sym e) (inr h)
 
 pub faulted_end :

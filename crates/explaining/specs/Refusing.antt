@@ -21,24 +21,13 @@ abbrev pub IsRefusalText : Format → RefusedCommand → List ℕ → Type 0
 IsRefusalText format.Text told text = IsRefusedText told text
 IsRefusalText format.Json told text = IsCommandLine told text
 
-<<<<<<< ours
 -- A text tells the refusal of the command of a number, with the place of the command in the text by which the script
--- is told. The reason that it
--- gives, if it gives one, holds of the command, of these limits and of these buffers.
-pub record TellsRefusal (limits : Limits) (buffers : Table (List ℕ)) (f : Format) (name : List ℕ) (script : PlacedScript) (commands : List Command) (ticket : ℕ) (refusal : Refusal) (text : List ℕ) : Type 0 where
-=======
--- A text tells the refusal of the command of a number, with the place of the command in the script. The reason that it
--- gives, if it gives one, holds of the command, of these limits and of these buffers with their flags.
-pub record TellsRefusal (limits : Limits) (buffers flags : Table (List ℕ)) (f : Format) (name script : List ℕ) (commands : List Command) (ticket : ℕ) (refusal : Refusal) (text : List ℕ) : Type 0 where
->>>>>>> theirs
+-- is told. The reason that it gives, if it gives one, holds of the command, of these limits and of these buffers with
+-- their flags.
+pub record TellsRefusal (limits : Limits) (buffers flags : Table (List ℕ)) (f : Format) (name : List ℕ) (script : PlacedScript) (commands : List Command) (ticket : ℕ) (refusal : Refusal) (text : List ℕ) : Type 0 where
   pub place : CommandPlace
   pub stands : IsPlaced script ticket place
   pub told : RefusedCommand
-<<<<<<< ours
   pub tells : TellsRefused name script.text.now ticket place refusal told.why told
-  pub holds : (command : Command) → slice_get commands ticket ≡ Some command → IfSome told.why (Holds limits buffers command)
-=======
-  pub tells : TellsRefused name script ticket place refusal told.why told
   pub holds : (command : Command) → slice_get commands ticket ≡ Some command → IfSome told.why (Holds limits buffers flags command)
->>>>>>> theirs
   pub written : IsRefusalText f told text

@@ -100,13 +100,8 @@ pub(crate) fn explain_refused(
 ) -> Result<String, AllocError>
     requires placed { HasPlaces performed.now.told performed.now.commands.now }
     requires within { case.ticket < length performed.now.commands.now }
-<<<<<<< ours
-    ensures { IfOk result (λ text. TellsRefusal performed.now.options.configuration.limits (machine_of device.now).buffers performed.now.options.format
-        performed.now.given.name.now performed.now.told performed.now.commands.now case.ticket case.refusal (string_bytes text)) }
-=======
     ensures { IfOk result (λ text. TellsRefusal performed.now.options.configuration.limits (machine_of device.now).buffers (machine_of device.now).flags performed.now.options.format
-        performed.now.given.name.now performed.now.given.script.now performed.now.commands.now case.ticket case.refusal (string_bytes text)) }
->>>>>>> theirs
+        performed.now.given.name.now performed.now.told performed.now.commands.now case.ticket case.refusal (string_bytes text)) }
 {
     let found = reason_at(alloc, device, performed, case)?;
     let place = performed.told.place(case.ticket);

@@ -63,22 +63,13 @@ explained e options name launch contents context ticket place range orders f run
 
 -- what is told of a prepared launch
 pub whole :
-<<<<<<< ours
-    (m : Machine) (options : TellOptions) (name : List ℕ) (script : PlacedScript) (commands : List Command) (done : List Bool) (ticket : ℕ) (place : CommandPlace) (kernel : List ℕ) (range : Range) (orders : Bool) (context : Context) (buffers : Table (List ℕ)) (source_file : List ℕ) (file : List ℕ) (f : Fault) (given runs : List EventRun) (e : Explanation)
-    → slice_get commands ticket ≡ Some (command.Launch kernel range orders) → IsPrepared m kernel range context.launch.now → buffers ≡ m.buffers → IsSourceOf script commands done kernel context.program → IsPlaced script ticket place
-    → IsShort (launch_of (launches.setup_of context.launch.now) (bytes_in buffers)) f given runs → IsAsWanted options.as_given given runs → string_bytes e.schedule.given ≡ schedule_words given
-    → source_file ≡ source_name script name context.program.program_command → file ≡ utf8_lossy source_file
-    → IsExplained options name (launch_of (launches.setup_of context.launch.now) (bytes_in buffers)) (bytes_in buffers) context ticket place range orders f runs e → context.kernel.now ≡ kernel
-    → HasWhole m options name script commands done ticket f given runs file e
-whole m options name script commands done ticket place kernel range orders context buffers source_file file f given runs e at p same source stands short wanted words of_file told_file explained named = record {
-=======
-    (m : Machine) (options : TellOptions) (name script : List ℕ) (commands : List Command) (done : List Bool) (ticket : ℕ) (place : CommandPlace) (kernel : List ℕ) (range : Range) (orders : Bool) (context : Context) (buffers : Buffers) (f : Fault) (given runs : List EventRun) (e : Explanation)
-    → slice_get commands ticket ≡ Some (command.Launch kernel range orders) → IsPrepared m kernel range context.launch.now → buffers.bytes ≡ m.buffers → buffers.flags ≡ m.flags → IsSourceOf script commands done kernel context.program → StandsAt script commands ticket place
+    (m : Machine) (options : TellOptions) (name : List ℕ) (script : PlacedScript) (commands : List Command) (done : List Bool) (ticket : ℕ) (place : CommandPlace) (kernel : List ℕ) (range : Range) (orders : Bool) (context : Context) (buffers : Buffers) (source_file : List ℕ) (file : List ℕ) (f : Fault) (given runs : List EventRun) (e : Explanation)
+    → slice_get commands ticket ≡ Some (command.Launch kernel range orders) → IsPrepared m kernel range context.launch.now → buffers.bytes ≡ m.buffers → buffers.flags ≡ m.flags → IsSourceOf script commands done kernel context.program → IsPlaced script ticket place
     → IsShort (launch_in (launches.setup_of context.launch.now) buffers) f given runs → IsAsWanted options.as_given given runs → string_bytes e.schedule.given ≡ schedule_words given
+    → source_file ≡ source_name script name context.program.program_command → file ≡ utf8_lossy source_file
     → IsExplained options name (launch_in (launches.setup_of context.launch.now) buffers) (bytes_in buffers) context ticket place range orders f runs e → context.kernel.now ≡ kernel
-    → HasWhole m options name script commands done ticket f given runs e
-whole m options name script commands done ticket place kernel range orders context buffers f given runs e at p same set source stands short wanted words explained named = record {
->>>>>>> theirs
+    → HasWhole m options name script commands done ticket f given runs file e
+whole m options name script commands done ticket place kernel range orders context buffers source_file file f given runs e at p same set source stands short wanted words of_file told_file explained named = record {
   kernel = kernel;
   range = range;
   orders = orders;

@@ -160,12 +160,7 @@ pub record HasWhole (m : Machine) (options : TellOptions) (name : List ℕ) (scr
   pub kernel_named : context.kernel.now ≡ kernel
   pub source : IsSourceOf script commands done kernel context.program
   pub place : CommandPlace
-<<<<<<< ours
   pub stands : IsPlaced script ticket place
   pub named : file ≡ utf8_lossy (source_name script name context.program.program_command)
-  pub explained : IsExplained options name (launch_of (setup_of m (kernel_of m kernel) range) (bytes_of m)) (bytes_of m) context ticket place range orders f runs e
-=======
-  pub stands : StandsAt script commands ticket place
   pub explained : IsExplained options name (launch_at m (setup_of m (kernel_of m kernel) range)) (bytes_of m) context ticket place range orders f runs e
->>>>>>> theirs
   pub schedule : string_bytes e.schedule.given ≡ schedule_words given

@@ -9,13 +9,8 @@ ghost use Rattle.device.specs.Kept.{IsCodeOf};
 ghost use Rattle.device.specs.Machine.{machine_of};
 ghost use Rattle.explain_items.specs.Marked.{CodeIsMarked};
 ghost use Rattle.item_step.specs.Launches.{code_of, setup_of};
-<<<<<<< ours
 ghost use Rattle.placed_scripts.specs.Placed.{HasPlaces, source_name};
-ghost use Rattle.launches.specs.Groups.{HasGroups};
-=======
 ghost use Rattle.launches.specs.Groups.{HasGroups, launch_in};
-ghost use Rattle.simfile.specs.Places.{AreAt};
->>>>>>> theirs
 ghost use Rattle.spaces.specs.Buffers.{bytes_in};
 ghost use Rattle.telling.specs.Judged.{IsShort, LeadsThere, NoLaunch, Tells, Untold};
 ghost use Rattle.telling.specs.Told.{HasWhole, IsAsWanted, IsExplained, IsSourceOf, schedule_words};
@@ -207,12 +202,8 @@ fn told_of(
     ensures told { IfOk result (λ found. IfSome found (λ told. IsShort (launch_in (setup_of context.now.launch.now) buffers.now) fault.now schedule told.schedule)) }
     ensures wanted { IfOk result (λ found. IfSome found (λ told. IsAsWanted as_given schedule told.schedule)) }
     ensures given { IfOk result (λ found. IfSome found (λ told. string_bytes told.whole.schedule.given ≡ schedule_words schedule)) }
-<<<<<<< ours
     ensures source { IfOk result (λ found. IfSome found (λ told. string_bytes told.source ≡ utf8_lossy place.now.source.now)) }
-    ensures whole { IfOk result (λ found. IfSome found (λ told. IsExplained place.now.options place.now.name.now (launch_of (setup_of context.now.launch.now) (bytes_in buffers.now)) (bytes_in buffers.now) context.now
-=======
     ensures whole { IfOk result (λ found. IfSome found (λ told. IsExplained place.now.options place.now.name.now (launch_in (setup_of context.now.launch.now) buffers.now) (bytes_in buffers.now) context.now
->>>>>>> theirs
         place.now.ticket place.now.place place.now.range.now place.now.orders fault.now told.schedule told.whole)) }
 {
     let given = given_schedule(context.alloc, &schedule)?;
@@ -262,12 +253,8 @@ fn explain_launch(
     ensures told { IfOk result (λ found. IfSome found (λ told. IsShort (launch_in (setup_of context.now.launch.now) buffers.now) fault.now schedule told.schedule)) }
     ensures wanted { IfOk result (λ found. IfSome found (λ told. IsAsWanted place.now.options.as_given schedule told.schedule)) }
     ensures given { IfOk result (λ found. IfSome found (λ told. string_bytes told.whole.schedule.given ≡ schedule_words schedule)) }
-<<<<<<< ours
     ensures source { IfOk result (λ found. IfSome found (λ told. string_bytes told.source ≡ utf8_lossy place.now.source.now)) }
-    ensures whole { IfOk result (λ found. IfSome found (λ told. IsExplained place.now.options place.now.name.now (launch_of (setup_of context.now.launch.now) (bytes_in buffers.now)) (bytes_in buffers.now) context.now
-=======
     ensures whole { IfOk result (λ found. IfSome found (λ told. IsExplained place.now.options place.now.name.now (launch_in (setup_of context.now.launch.now) buffers.now) (bytes_in buffers.now) context.now
->>>>>>> theirs
         place.now.ticket place.now.place place.now.range.now place.now.orders fault.now told.schedule told.whole)) }
 {
     if !leads_there(context, buffers, fault, &schedule, known)? {

@@ -11,12 +11,6 @@ pub returns : goal.returns
 returns c =
     ok_then c.written.result _ _ c.written.ensures
     (λ text h.
-<<<<<<< ours
-    told_refusal c.args.performed.now.options.configuration.limits (machine_of c.args.device.now).buffers c.args.performed.now.options.format c.args.performed.now.given.name.now
+    told_refusal c.args.performed.now.options.configuration.limits (machine_of c.args.device.now).buffers (machine_of c.args.device.now).flags c.args.performed.now.options.format c.args.performed.now.given.name.now
     c.args.performed.now.told c.args.performed.now.commands.now c.args.case.ticket c.place-place.result c.args.case.refusal c.in_ok-found.found c.in_ok-told.told _
     c.place-place.ensures.placed c.in_ok-told.ensures c.in_ok-found.ensures h)
-=======
-    told_refusal c.args.performed.now.options.configuration.limits (machine_of c.args.device.now).buffers (machine_of c.args.device.now).flags c.args.performed.now.options.format c.args.performed.now.given.name.now
-    c.args.performed.now.given.script.now c.args.performed.now.commands.now c.args.case.ticket c.place_of-place.result c.args.case.refusal c.in_ok-found.found c.in_ok-told.told _
-    (c.requires.placed.each c.args.case.ticket c.place_of-place.result c.place_of-place.ensures) c.in_ok-told.ensures c.in_ok-found.ensures h)
->>>>>>> theirs

@@ -20,19 +20,11 @@ returns-clause-told c =
 
 pub returns-clause-whole : goal.returns-clause-whole
 returns-clause-whole c =
-<<<<<<< ours
     some_all c.in_ok-explain_launch.field-0 _ _ _ _ _ _ c.in_ok-explain_launch.ensures.told c.in_ok-explain_launch.ensures.wanted c.in_ok-explain_launch.ensures.given
     c.in_ok-explain_launch.ensures.source c.in_ok-explain_launch.ensures.whole
     (λ told short wanted given file explained.
     whole (machine_of c.args.device.now) c.args.launched.now.options c.args.launched.now.name.now c.args.launched.now.script c.args.launched.now.commands.now c.args.launched.now.done.now c.args.ticket c.place-at.result c.in-Some.kernel.now c.in-Some.range.now c.in-Some.orders _ c.buffers.result.now c.file_of-source.result.now (string_bytes told.source) c.args.fault.now
-    c.args.schedule told.schedule told.whole c.in-Some.ensures.launch c.in-Ok.ensures.prepared c.buffers.ensures c.program_of-program.ensures c.place-at.ensures.placed short wanted given c.file_of-source.ensures file explained refl)
-=======
-    some_all c.in_ok-explain_launch.field-0 _ _ _ _ _ c.in_ok-explain_launch.ensures.told c.in_ok-explain_launch.ensures.wanted c.in_ok-explain_launch.ensures.given
-    c.in_ok-explain_launch.ensures.whole
-    (λ told short wanted given explained.
-    whole (machine_of c.args.device.now) c.args.launched.now.options c.args.launched.now.name.now c.args.launched.now.script.now c.args.launched.now.commands.now c.args.launched.now.done.now c.args.ticket c.place_of-at.result c.in-Some.kernel.now c.in-Some.range.now c.in-Some.orders _ c.buffers.result.now c.args.fault.now
-    c.args.schedule told.schedule told.whole c.in-Some.ensures.launch c.in-Ok.ensures.prepared c.buffers.ensures.bytes c.buffers.ensures.flags c.program_of.ensures (c.requires.placed.each c.args.ticket c.place_of-at.result c.place_of-at.ensures) short wanted given explained refl)
->>>>>>> theirs
+    c.args.schedule told.schedule told.whole c.in-Some.ensures.launch c.in-Ok.ensures.prepared c.buffers.ensures.bytes c.buffers.ensures.flags c.program_of-program.ensures c.place-at.ensures.placed short wanted given c.file_of-source.ensures file explained refl)
 
 pub returns-in-Err-clause-failed : goal.returns-in-Err-clause-failed
 returns-in-Err-clause-failed c = (
