@@ -13,7 +13,7 @@ use Rattle.fault_lines.specs.Reading.{conflict_at, divergence_at, element_at, pr
 use Rattle.text_lines.proofs.FieldLaws.{after_again}
 use Rattle.fault_lines.proofs.FieldLaws.{name_before_again, number_before_again, number32_before_again, signed_before_again}
 use Rattle.fault_lines.proofs.ReaderSteps.{joined_onto, joined-append}
-use Rattle.fault_lines.proofs.Grammar.{parts_of, kind_again, place_again, local_place_again, stop_again}
+use Rattle.fault_lines.proofs.Grammar.{parts_of, kind_again, place_again, stop_again}
 
 -- what follows a fault
 abbrev Rest : List ℕ → List ℕ
@@ -86,7 +86,7 @@ behind_words (fault.Bounds item kind place element) (i, p, e) more =
 behind_words (fault.PrivateBounds item array element) (i, n, e) more =
     rw (number32_before_again, after_again (codes "private "), name_before_again, after_again (codes "element "), signed_before_again)
 behind_words (fault.Unset item kind place byte) (i, p, b) more =
-    rw (number32_before_again, (kind_is_neither kind _).1, (kind_is_neither kind _).0, kind_again, local_place_again, after_again (codes "byte "), number_before_again)
+    rw (number32_before_again, (kind_is_neither kind _).1, (kind_is_neither kind _).0, kind_again, place_again, after_again (codes "byte "), number_before_again)
 behind_words (fault.UnsetVariable item variable) (i, n) more =
     rw (number32_before_again, after_again (codes "variable "), name_before_again)
 behind_words (fault.UnsetElement item array element) (i, n, e) more =

@@ -18,7 +18,7 @@ use Rattle.clmodel.specs.declared.fault.Location.TheVariants as location
 use Rattle.fault_lines.specs.Text.{kind_text, clash_text, location_text, later_turn_text, turns_text, stop_text, private_texts, fault_words, fault_item, fault_details, fault_text}
 use Rattle.text_lines.specs.Texts.{is_later, list_text}
 use Rattle.fault_lines.specs.Fields.{is_name, turns_of, IsElement}
-use Rattle.fault_lines.specs.ScheduleFile.{IsPlace, IsLocalPlace, IsStop, IsWritten}
+use Rattle.fault_lines.specs.ScheduleFile.{IsPlace, IsStop, IsWritten}
 use Rattle.text_lines.specs.Fronts.{◌>>=◌, after, before}
 use Rattle.fault_lines.specs.Reading.{number32_at, same, kind_of, kind_at, buffer_at, local_at, local_place_at, place_at, listed_at, turns_at, barrier_at, barrier_stop_at, stop_at, conflict_at, divergence_at, element_at, private_fault_at, access_bounds_at, bounds_at, variable_at, access_unset_at, unset_at, item_fault_at, alone_fault_at, memory_fault_at, fault_at}
 use Rattle.text_lines.proofs.FieldLaws.{read_then, after_takes, after_again}
@@ -88,37 +88,29 @@ buffer_takes bytes x e =
     let parted = begins (codes "buffer " ∷ []) bytes ▸ s1.1.0 in
     read_is (λ y. PlaceBehind (codes "buffer " ++ bytes) y.0 y.1) s1.2 (as_text (codes "buffer " ∷ s1.0.0 ∷ []) parted.split, s1.1.1)
 
-abbrev LocalBehind : List ℕ → Location → List ℕ → Type 0
-LocalBehind bytes place rest = Parted bytes (location_text place ∷ codes " " ∷ []) rest × IsLocalPlace place
-
-local_place_takes : (bytes : List ℕ) (x : Location × List ℕ) → local_place_at bytes ≡ Some x → LocalBehind bytes x.0 x.1
+local_place_takes : (bytes : List ℕ) (x : Location × List ℕ) → local_place_at bytes ≡ Some x → PlaceBehind bytes x.0 x.1
 unfolding local_place_at local_at
 local_place_takes bytes x e =
     let s1 = read_then _ (word_takes (codes "local ") bytes) e in
     let s2 = read_then _ (number32_before 32 s1.0) s1.2 in
     let s3 = read_then _ (name_before s2.0.1) s2.2 in
     let parted = s1.1 ▸ s2.1.0 ▸ s3.1.0 in
-    read_is (λ y. LocalBehind bytes y.0 y.1) s3.2 (as_text (codes "local " ∷ decimal s2.0.0 ∷ codes " " ∷ s3.0.0 ∷ []) parted.split, (s2.1.1, s3.1.1))
-
-local_is_place : (place : Location) → IsLocalPlace place → IsPlace place
-local_is_place (location.Buffer name) h = absurd h
-local_is_place (location.Local group name) h = h
+    read_is (λ y. PlaceBehind bytes y.0 y.1) s3.2 (as_text (codes "local " ∷ decimal s2.0.0 ∷ codes " " ∷ s3.0.0 ∷ []) parted.split, (s2.1.1, s3.1.1))
 
 place_takes : (bytes : List ℕ) (x : Location × List ℕ) → place_at bytes ≡ Some x → PlaceBehind bytes x.0 x.1
 unfolding place_at
 place_takes bytes x e =
-    by_word (λ l. PlaceBehind l x.0 x.1) (codes "buffer ") bytes (λ onto. buffer_takes onto x) (λ k. let t = local_place_takes bytes x k in (t.0, local_is_place x.0 t.1)) e
+    by_word (λ l. PlaceBehind l x.0 x.1) (codes "buffer ") bytes (λ onto. buffer_takes onto x) (local_place_takes bytes x) e
 
-pub local_place_again : (place : Location) → IsLocalPlace place → (rest : List ℕ) → local_place_at (location_text place ++ 32 ∷ rest) ≡ Some (place, rest)
+local_place_again : (group : ℕ) (name : List ℕ) → IsPlace (location.Local group name) → (rest : List ℕ) → local_place_at (location_text (location.Local group name) ++ 32 ∷ rest) ≡ Some (location.Local group name, rest)
 unfolding local_place_at local_at
-local_place_again (location.Buffer name) h rest = absurd h
-local_place_again (location.Local group name) (g, n) rest =
+local_place_again group name (g, n) rest =
     rw (joined-append (codes "local " ∷ decimal group ∷ codes " " ∷ name ∷ []) (32 ∷ rest), after_again (codes "local "), number32_before_again, name_before_again)
 
 pub place_again : (place : Location) → IsPlace place → (rest : List ℕ) → place_at (location_text place ++ 32 ∷ rest) ≡ Some (place, rest)
 unfolding place_at buffer_at
 place_again (location.Buffer name) n rest = rw (joined-append (codes "buffer " ∷ name ∷ []) (32 ∷ rest), after_again (codes "buffer "), name_before_again)
-place_again (location.Local group name) h rest = let again = local_place_again (location.Local group name) h rest in unfold after in again
+place_again (location.Local group name) h rest = let again = local_place_again group name h rest in unfold after in again
 
 -- a stop
 
@@ -305,7 +297,7 @@ access_unset_takes : (item : ℕ) → item < 2 ^ 32 → (bytes : List ℕ) (x : 
 unfolding access_unset_at
 access_unset_takes item h bytes x e =
     let s1 = read_then _ (kind_takes bytes) e in
-    let s2 = read_then _ (local_place_takes s1.0.1) s1.2 in
+    let s2 = read_then _ (place_takes s1.0.1) s1.2 in
     let s3 = read_then _ (word_takes (codes "byte ") s2.0.1) s2.2 in
     let s4 = read_then _ (number_before 32 s3.0) s3.2 in
     let parted = begins (item_parts (codes "fault 5 unset item ") item) bytes ▸ s1.1 ▸ s2.1.0 ▸ s3.1 ▸ s4.1.0 in

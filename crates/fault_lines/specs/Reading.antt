@@ -167,7 +167,7 @@ variable_at item bytes = do
 unfoldable pub access_unset_at : ℕ → List ℕ → Option (Fault × List ℕ)
 access_unset_at item bytes = do
   kind ← kind_at bytes
-  place ← local_place_at kind.1
+  place ← place_at kind.1
   rest ← after (codes "byte ") place.1
   byte ← before 32 (number_at rest)
   Some (fault.Unset item kind.0 place.0 byte.0, byte.1)

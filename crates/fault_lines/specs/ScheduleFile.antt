@@ -21,22 +21,17 @@ abbrev pub IsPlace : Location → Type 0
 IsPlace (location.Buffer name) = IsTrue (is_name name)
 IsPlace (location.Local group name) = IsNumber32 group × IsTrue (is_name name)
 
--- a place in local memory
-abbrev pub IsLocalPlace : Location → Type 0
-IsLocalPlace (location.Buffer name) = ⊥
-IsLocalPlace (location.Local group name) = IsNumber32 group × IsTrue (is_name name)
-
 abbrev pub IsStop : Stop → Type 0
 IsStop (stop.At instance) = IsNumber32 instance.site × IsTrue (list_all (λ turn. nat_lt turn 4294967296) instance.turns)
 IsStop stop.Ended = Unit {0}
 
--- a fault with numbers of the machine and with names. Only a buffer's byte is never unset.
+-- a fault with numbers of the machine and with names
 abbrev pub IsWritten : Fault → Type 0
 IsWritten (fault.Conflict clash item kind other other_kind place byte) = IsNumber32 item × IsNumber32 other × IsPlace place × (byte < 2 ^ 64)
 IsWritten (fault.Divergence item stop other other_stop) = IsNumber32 item × IsStop stop × IsNumber32 other × IsStop other_stop
 IsWritten (fault.Bounds item kind place element) = IsNumber32 item × IsPlace place × IsElement element
 IsWritten (fault.PrivateBounds item array element) = IsNumber32 item × IsTrue (is_name array) × IsElement element
-IsWritten (fault.Unset item kind place byte) = IsNumber32 item × IsLocalPlace place × (byte < 2 ^ 64)
+IsWritten (fault.Unset item kind place byte) = IsNumber32 item × IsPlace place × (byte < 2 ^ 64)
 IsWritten (fault.UnsetVariable item variable) = IsNumber32 item × IsTrue (is_name variable)
 IsWritten (fault.UnsetElement item array element) = IsNumber32 item × IsTrue (is_name array) × IsElement element
 IsWritten (fault.DivideByZero item) = IsNumber32 item

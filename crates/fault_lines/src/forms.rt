@@ -254,13 +254,13 @@ fn variable_at(item: u32, bytes: &[u8]) -> Option<(LentFault<'_>, &[u8])>
     Some((LentFault::UnsetVariable { item, variable }, rest))
 }
 
-/// An access that reads an unset byte of local memory, behind its item, and the rest.
+/// An access that reads an unset byte of a buffer or of local memory, behind its item, and the rest.
 #[tactic(auto, unfolding(crate::specs::Reading::access_unset_at))]
 fn access_unset_at(item: u32, bytes: &[u8]) -> Option<(LentFault<'_>, &[u8])>
     ensures { option_map (λ read. (fault_of read.0, read.1.now)) result ≡ access_unset_at item bytes.now }
 {
-    let (kind, rest) = kind_at(bytes)?;
-    let (place, rest) = local_place_at(rest)?;
+    let (kind, behind) = kind_at(bytes)?;
+    let (place, rest) = place_at(behind)?;
     let rest = after(b"byte ", rest)?;
     let (byte, rest) = number_before(b' ', rest)?;
     let unset = Unset {
@@ -272,7 +272,7 @@ fn access_unset_at(item: u32, bytes: &[u8]) -> Option<(LentFault<'_>, &[u8])>
     Some((LentFault::Unset(unset), rest))
 }
 
-/// An unset variable, private element or byte of local memory, behind `unset item`, and the rest.
+/// An unset variable, private element or byte of a place, behind `unset item`, and the rest.
 #[tactic(auto, unfolding(crate::specs::Reading::unset_at))]
 fn unset_at(bytes: &[u8]) -> Option<(LentFault<'_>, &[u8])>
     ensures { option_map (λ read. (fault_of read.0, read.1.now)) result ≡ unset_at bytes.now }
