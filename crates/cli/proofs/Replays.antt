@@ -16,7 +16,7 @@ use Rattle.byte_io.specs.Sink.{Sink}
 use Rattle.item_step.specs.Launches as launches
 use Rattle.item_step.specs.declared.launch.Launch.{Launch}
 use Rattle.spaces.specs.declared.buffers.Buffers.{Buffers}
-use Rattle.device.proofs.Prepared.{prepared_on}
+use Rattle.device.proofs.OnBuffers.{prepared_on}
 use Rattle.cli.specs.Reading.{ReadsScript}
 use Rattle.cli.specs.Replaying.{HadMemory, Leads, Performs, Replays, ReadsFile, Unjudged, Unreplayed, Missed, Refused}
 use Rattle.simfile.specs.declared.faults.RunFault.{RunFault}

@@ -1,6 +1,6 @@
 pub mod Programs
 mod Merged
-pub mod Prepared
+pub mod OnBuffers
 pub mod Runs
 pub mod Written
 pub mod Launches

@@ -21,7 +21,7 @@ use Rattle.simfile.specs.Script.{IsScript}
 use Rattle.simfile.specs.declared.faults.RunFault.{RunFault}
 use Rattle.simfile.specs.declared.faults.RunFault.TheVariants as fault
 use Rattle.spaces.specs.declared.buffers.Buffers.{Buffers}
-use Rattle.device.proofs.Prepared.{prepared_on}
+use Rattle.device.proofs.OnBuffers.{prepared_on}
 use Rattle.exploring.specs.Commands.{CommandUntold, IsExplored, IsManner, TellsCommand, TellsEach, behind, first_spot, is_launch, launch_count, next, with_told}
 use Rattle.exploring.specs.Explored.{HasBegun, HasTold, IsExploredScript, IsMissing, IsPart, IsToldOf, Unexplored, Untold, is_among, is_past, least, no_end}
 use Rattle.exploring.specs.Findings.{AreFound}

@@ -20,7 +20,7 @@ use Rattle.host_commands.specs.declared.command.Refusal.TheVariants as refusal
 use Rattle.item_step.specs.Launches as launches
 use Rattle.item_step.specs.declared.launch.Launch.{Launch}
 use Rattle.spaces.specs.declared.buffers.Buffers.{Buffers}
-use Rattle.device.proofs.Prepared.{prepared_on}
+use Rattle.device.proofs.OnBuffers.{prepared_on}
 use Rattle.telling.specs.Judged.{LeadsThere, Refuses, Tells}
 use Rattle.telling.specs.declared.told.ExplainedCase.{ExplainedCase}
 

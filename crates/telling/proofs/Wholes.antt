@@ -14,7 +14,7 @@ use Rattle.clmodel.specs.declared.setup.Range.{Range}
 use Rattle.device.specs.Kept.{IsCodeOf}
 use Rattle.device.specs.Machine.{Machine, kernel_of, launch_at, setup_of}
 use Rattle.device.specs.Prepared.{IsPrepared}
-use Rattle.device.proofs.Prepared.{prepared_on}
+use Rattle.device.proofs.OnBuffers.{prepared_on}
 use Rattle.explain_items.specs.Named.{AreToldInside, told_items}
 use Rattle.explain_items.specs.declared.context.Context.{Context}
 use Rattle.explanation.specs.declared.steps.ScheduleFacts.{ScheduleFacts}
