@@ -1,5 +1,5 @@
 -- Rows of flags beside the buffers that they are of.
-use Rattle.std.proofs.Common.{◌≡◌, ℕ, zero, suc, ◌+◌, ◌-◌, ◌<◌, ◌≤◌, ◌%◌, ◌==◌, ◌⊎◌, inl, inr, Bool, true, false, not, cond, ◌||◌, if◌then◌else◌, List, [], ◌∷◌, ◌++◌, Option, None, Some, is_some, Result, Ok, Err, OnOk, OnErr, length, map, take, drop, replicate, refl, sym, ap, ap₂, subst, ◌∙◌, arith, append-nil, take-append-drop, length-append, length-take, length-drop}
+use Rattle.std.proofs.Common.{◌≡◌, ℕ, zero, suc, ◌+◌, ◌-◌, ◌<◌, ◌≤◌, ◌%◌, ◌==◌, ◌⊎◌, inl, inr, Bool, true, false, not, cond, ◌||◌, if◌then◌else◌, List, [], ◌∷◌, ◌++◌, Option, None, Some, is_some, Result, Ok, Err, OnOk, OnErr, length, map, take, drop, replicate, refl, sym, ap, ap₂, subst, ◌∙◌, arith, append-nil, append_assoc, take-append-drop, length-append, length-take, length-drop}
 use Rattle.std.specs.List.{list_any, range_with_len}
 use Rattle.std.specs.Map.{remove_entry, set_value}
 use Rattle.std.specs.Option.{unwrap_or}
@@ -48,7 +48,7 @@ put_in true value None = None
 put_in true value (Some a) = Some value
 
 pub found_put : {A : Type 0} (es : Table A) (name other : List ℕ) (value : A) → find (set_value (is name) es value) other ≡ put_in (is name other) value (find es other)
-found_put [] name other value = by (is name other)
+found_put {A} [] name other value = by (is name other)
   where
     by : (b : Bool) → ◌≡◌ {A = Option A} None (put_in b value None)
     by true = refl
@@ -350,7 +350,7 @@ fit_held bytes flags held name row offset fit inside b =
     subst (λ (es : Table (List ℕ)). AreFit es flags) (sym b) (fit_bytes bytes flags name (with_bytes (row_in bytes name) offset row) fit (λ h. long_with (row_in bytes name) row offset inside))
 
 -- a pattern of one zero, again and again
-zeros_from : (first n : ℕ) → map (λ byte. get_or (0 ∷ []) (byte % 1) 0) (range_with_len first n) ≡ replicate n 0
+zeros_from : (first n : ℕ) → map {A = ℕ} {B = ℕ} (λ byte. get_or (0 ∷ []) (byte % 1) 0) (range_with_len first n) ≡ replicate n 0
 zeros_from first zero = refl
 zeros_from first (suc n) = ap₂ (λ x xs. x ∷ xs) (ap (λ k. get_or (0 ∷ []) k 0) {x = first % 1} {y = 0} (omega arith)) (zeros_from (first + 1) n)
 
@@ -523,7 +523,7 @@ over_from : (unset : ℕ → Bool) (first : ℕ) (bytes : List ℕ) (k : ℕ) �
 over_from unset first [] k h = absurd (omega (arith, h))
 over_from unset first (byte ∷ bytes) zero h = by (unset first) ∙ ap (λ n. if unset n then 1 else 0) {x = first} {y = first + 0} (omega arith)
   where
-    by : (b : Bool) → (if is_some (if b then None else Some byte) then 0 else 1) ≡ (if b then 1 else 0)
+    by : (b : Bool) → ◌≡◌ {A = ℕ} (if is_some (if b then None else Some byte) then 0 else 1) (if b then 1 else 0)
     by true = refl
     by false = refl
 over_from unset first (byte ∷ bytes) (suc k) h =
@@ -548,10 +548,10 @@ half_all old new place many past =
     ap (with_bytes old 0) (take_all place new (omega (arith, many, past))) ∙ ap (λ l. new ++ l) (drop_all (0 + length new) old (omega (arith, many))) ∙ append-nil new
 
 half_more : (old new : List ℕ) (place b : ℕ) → place < length old → length new ≡ length old → b ≡ slice_index new place → with_bytes (halfway old new place) place (b ∷ []) ≡ halfway old new (place + 1)
-half_more old new place b inside many is =
+half_more old new place b inside many here =
     let long : length (take place new) ≡ place = omega (arith, length-take place new, many, inside) in
     with_more old (take place new) (b ∷ []) 0 place (omega (arith, long)) (omega (arith, long, inside))
-    ∙ ap (with_bytes old 0) (ap (λ x. take place new ++ x ∷ []) is ∙ sym (take_more new place 0 (omega (arith, many, inside))))
+    ∙ ap (with_bytes old 0) (ap (λ x. take place new ++ x ∷ []) here ∙ sym (take_more new place 0 (omega (arith, many, inside))))
 
 pub half_here : (old new : List ℕ) (place : ℕ) → place < length old → length new ≡ length old → slice_index (halfway old new place) place ≡ slice_index old place
 half_here old new place inside many =
@@ -568,14 +568,15 @@ flags_left bytes flags both = over_many (held_cells bytes flags) ∙ held_many b
 pub byte_settled :
     (bytes flags now next : List ℕ) (place flag : ℕ) → length flags ≡ length bytes → place < length bytes → now ≡ halfway bytes (bytes_beneath (held_cells bytes flags)) place → flag ≡ slice_index flags place
     → next ≡ with_bytes now place ((if flag == 0 then slice_index now place else 0) ∷ []) → next ≡ halfway bytes (bytes_beneath (held_cells bytes flags)) (place + 1)
-byte_settled bytes flags now next place flag both inside at here is =
-    is
+byte_settled bytes flags now next place flag both inside at here next_is =
+    next_is
     ∙ ap (λ row. with_bytes row place ((if flag == 0 then slice_index row place else 0) ∷ [])) at
     ∙ half_more bytes goal place (if flag == 0 then slice_index (halfway bytes goal place) place else 0) inside many
     (ap (λ n. if flag == 0 then n else 0) (half_here bytes goal place inside many)
     ∙ ap (λ n. if n == 0 then slice_index bytes place else 0) here
     ∙ sym (chosen (slice_index flags place == 0) 0 (slice_index bytes place))
     ∙ ap (λ b. if b then 0 else slice_index bytes place) (sym (flag_at flags place (omega (arith, both, inside))))
+    ∙ ap (λ n. if is_flagged flags n then 0 else slice_index bytes place) {x = place} {y = 0 + place} (omega arith)
     ∙ sym (beneath_from (is_flagged flags) 0 bytes place))
   where
     goal : List ℕ
@@ -588,13 +589,14 @@ byte_settled bytes flags now next place flag both inside at here is =
 pub flag_settled :
     (bytes flags now next : List ℕ) (place flag : ℕ) → length flags ≡ length bytes → place < length bytes → now ≡ halfway flags (flags_over (held_cells bytes flags)) place → flag ≡ slice_index flags place
     → next ≡ with_bytes now place ((if flag == 0 then 0 else 1) ∷ []) → next ≡ halfway flags (flags_over (held_cells bytes flags)) (place + 1)
-flag_settled bytes flags now next place flag both inside at here is =
-    is
+flag_settled bytes flags now next place flag both inside at here next_is =
+    next_is
     ∙ ap (λ row. with_bytes row place ((if flag == 0 then 0 else 1) ∷ [])) at
     ∙ half_more flags goal place (if flag == 0 then 0 else 1) (omega (arith, both, inside)) many
     (ap (λ n. if n == 0 then 0 else 1) here
     ∙ sym (chosen (slice_index flags place == 0) 1 0)
     ∙ ap (λ b. if b then 1 else 0) (sym (flag_at flags place (omega (arith, both, inside))))
+    ∙ ap (λ n. if is_flagged flags n then 1 else 0) {x = place} {y = 0 + place} (omega arith)
     ∙ sym (over_from (is_flagged flags) 0 bytes place inside))
   where
     goal : List ℕ
@@ -605,5 +607,8 @@ flag_settled bytes flags now next place flag both inside at here is =
 
 -- what is written where it is already
 pub with_same : (row : List ℕ) (place b : ℕ) → place < length row → b ≡ slice_index row place → with_bytes row place (b ∷ []) ≡ row
-with_same row place b inside is =
-    ap (λ x. take place row ++ x ∷ drop (place + 1) row) is ∙ ap (λ l. take place row ++ l) (sym (drop_more row place 0 inside)) ∙ take-append-drop place row
+with_same row place b inside here =
+    ap (λ x. take place row ++ x ∷ [] ++ drop (place + 1) row) here
+    ∙ append_assoc (take place row) (slice_index row place ∷ []) (drop (place + 1) row)
+    ∙ ap (λ l. take place row ++ l) (sym (drop_more row place 0 inside))
+    ∙ take-append-drop place row

@@ -4,7 +4,7 @@ use Rattle.spaces.specs.FlagRows.{both_with_changes}
 use Rattle.spaces.specs.Tables.{Table}
 use Rattle.spaces.proofs.Changed.{any_done}
 use Rattle.spaces.proofs.FlagRows.{both_done, both_more}
-use Rattle.spaces.proofs.left_bytes.Buffers.put_all_changes.Goals as goal
+use Rattle.spaces.proofs.buffers.Buffers.put_all_changes.Goals as goal
 
 pub loop-place-preserved : goal.loop-place-preserved
 loop-place-preserved c =

@@ -4,7 +4,7 @@ use Rattle.spaces.specs.Buffers.{is_unset_in}
 use Rattle.spaces.specs.Parts.{lowest_marked}
 use Rattle.spaces.proofs.FlagRows.{none_flagged}
 use Rattle.spaces.proofs.Parts.{lowest_none, lowest_here, lowest_later}
-use Rattle.spaces.proofs.host_bytes.Buffers.lowest_unset.Goals as goal
+use Rattle.spaces.proofs.buffers.Buffers.lowest_unset.Goals as goal
 
 pub returns-then-is_empty : goal.returns-then-is_empty
 returns-then-is_empty c =

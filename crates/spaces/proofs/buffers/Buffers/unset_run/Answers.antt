@@ -3,7 +3,7 @@ use Rattle.clmodel.specs.Cells.{is_flagged}
 use Rattle.spaces.specs.Buffers.{is_unset_in}
 use Rattle.spaces.specs.Parts.{marked_run}
 use Rattle.spaces.proofs.FlagRows.{run_ends, run_on, run_none}
-use Rattle.spaces.proofs.host_bytes.Buffers.unset_run.Goals as goal
+use Rattle.spaces.proofs.buffers.Buffers.unset_run.Goals as goal
 
 pub loop-byte-init : goal.loop-byte-init
 loop-byte-init c =
