@@ -13,12 +13,12 @@ returns-clause-fit c =
     let long : length c.as_slice.result.now ≡ c.args.count =
     many_copied _ _ _ _ c.args.offset c.args.count c.as_slice.ensures c.in_ok-copied.ensures c.bytes_in.ensures c.requires.source in
     elim c.if-is_some.branch [
-      then-is_some+in_ok-copy_flags w ↦
-        fit_copied old.bytes _ _ _ target _ at c.args.count (subst (λ (b : Buffers). AreFit b.bytes b.flags) (sym w.self-is) w.copy_flags.ensures.fit) (ap (λ (b : Buffers). b.bytes) w.self-is ∙ w.copy_flags.ensures.bytes) long
-        c.requires.target c.write.ensures
-    | else-is_some w ↦
-        fit_copied old.bytes _ _ _ target _ at c.args.count
-        (subst (λ (b : Buffers). AreFit b.bytes b.flags) (sym w.self-is)
-        (fit_put old.bytes old.flags _ target (replicate c.args.count 0) at c.requires.fit (omega (arith, many_zeros c.args.count 0, c.requires.target)) w.put_set.ensures))
-        (ap (λ (b : Buffers). b.bytes) w.self-is) long c.requires.target c.write.ensures
+      | then-is_some+in_ok-copy_flags w ↦
+          fit_copied old.bytes _ _ _ target _ at c.args.count (subst (λ (b : Buffers). AreFit b.bytes b.flags) (sym w.self-is) w.copy_flags.ensures.fit) (ap (λ (b : Buffers). b.bytes) w.self-is ∙ w.copy_flags.ensures.bytes) long
+          c.requires.target c.write.ensures
+      | else-is_some w ↦
+          fit_copied old.bytes _ _ _ target _ at c.args.count
+          (subst (λ (b : Buffers). AreFit b.bytes b.flags) (sym w.self-is)
+          (fit_put old.bytes old.flags _ target (replicate c.args.count 0) at c.requires.fit (omega (arith, many_zeros c.args.count 0, c.requires.target)) w.put_set.ensures))
+          (ap (λ (b : Buffers). b.bytes) w.self-is) long c.requires.target c.write.ensures
     ]

@@ -1,5 +1,4 @@
 use Rattle.std.proofs.Common.{ℕ, ◌+◌, List, length, drop, sym, ap₂, ◌∙◌, arith}
-use Rattle.std.proofs.lemmas.List.{drop_more}
 use Rattle.spaces.specs.FlagRows.{both_with_changes}
 use Rattle.spaces.specs.Tables.{Table}
 use Rattle.spaces.proofs.Changed.{any_done}
