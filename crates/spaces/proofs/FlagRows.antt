@@ -669,14 +669,14 @@ pub not_absent : (bytes flags now : Table (List ℕ)) (name mark row : List ℕ)
 not_absent bytes flags now name mark row fit n f g = true≢false (sym (ap is_some (g ∙ still_there bytes flags now name mark row fit n f)))
 
 -- the bytes and the flags of a buffer that has flags, once both are changed
-pub record IsChanged (bytes flags now : Table (List ℕ)) (name : List ℕ) (one other : Changed) (row marks : List ℕ) : Type 0 where
+pub record AreChanged (bytes flags : Table (List ℕ)) (name : List ℕ) (one other : Changed) (row marks : List ℕ) : Type 0 where
   pub row_is : row ≡ with_changes (row_in bytes name) one
   pub marks_are : marks ≡ with_changes (row_in flags name) other
   pub both : length marks ≡ length row
 
 pub changed_both :
     (bytes flags now : Table (List ℕ)) (name : List ℕ) (one other : Changed) (mark row marks : List ℕ) → AreFit bytes flags → now ≡ set_value (is name) bytes (with_changes (row_in bytes name) one) → Some mark ≡ find flags name
-    → marks ≡ with_changes mark other → Some row ≡ find now name → IsChanged bytes flags now name one other row marks
+    → marks ≡ with_changes mark other → Some row ≡ find now name → AreChanged bytes flags name one other row marks
 changed_both bytes flags now name one other mark row marks fit n f m g =
     record {
       row_is = first;
@@ -693,7 +693,7 @@ changed_both bytes flags now name one other mark row marks fit n f m g =
 
 -- and once they are in the form that a launch leaves
 pub bytes_left_in :
-    (bytes flags now held : Table (List ℕ)) (name : List ℕ) (one other : Changed) (row marks left : List ℕ) → IsChanged bytes flags now name one other row marks → now ≡ set_value (is name) bytes (with_changes (row_in bytes name) one)
+    (bytes flags now held : Table (List ℕ)) (name : List ℕ) (one other : Changed) (row marks left : List ℕ) → AreChanged bytes flags name one other row marks → now ≡ set_value (is name) bytes (with_changes (row_in bytes name) one)
     → left ≡ bytes_beneath (held_cells row marks) → held ≡ set_value (is name) now left → held ≡ bytes_with bytes flags name one other
 bytes_left_in bytes flags now held name one other row marks left changed n l h =
     h
@@ -702,9 +702,9 @@ bytes_left_in bytes flags now held name one other row marks left changed n l h =
     ∙ ap (set_value (is name) bytes) (l ∙ ap₂ (λ r m. bytes_beneath (held_cells r m)) changed.row_is changed.marks_are)
 
 pub flags_left_in :
-    (bytes flags now held marked : Table (List ℕ)) (name : List ℕ) (one other : Changed) (row marks left : List ℕ) → IsChanged bytes flags now name one other row marks → left ≡ flags_over (held_cells row marks)
+    (bytes flags held marked : Table (List ℕ)) (name : List ℕ) (one other : Changed) (row marks left : List ℕ) → AreChanged bytes flags name one other row marks → left ≡ flags_over (held_cells row marks)
     → held ≡ set_value (is name) flags left → marked ≡ tidied held name → marked ≡ flags_with bytes flags name one other
-flags_left_in bytes flags now held marked name one other row marks left changed l h t =
+flags_left_in bytes flags held marked name one other row marks left changed l h t =
     t ∙ ap (λ (es : Table (List ℕ)). tidied es name) (h ∙ ap (set_value (is name) flags) (l ∙ ap₂ (λ r m. flags_over (held_cells r m)) changed.row_is changed.marks_are))
 
 -- both fit

@@ -31,7 +31,7 @@ returns c =
           let changed =
           changed_both old.bytes old.flags _ name c.args.changes.now c.args.cleared.now _ _ _ c.requires.fit c.write_changes.ensures c.in-Some.ensures.value c.write_into.ensures w.in-Some-get_mut.ensures.value in
           let held = bytes_left_in old.bytes old.flags _ _ name c.args.changes.now c.args.cleared.now _ _ _ changed c.write_changes.ensures w.settle.ensures.bytes (ap (λ (b : Buffers). b.bytes) w.self-is) in
-          let marked = flags_left_in old.bytes old.flags _ _ _ name c.args.changes.now c.args.cleared.now _ _ _ changed w.settle.ensures.flags (ap (λ (b : Buffers). b.flags) w.self-is) c.tidy.ensures in
+          let marked = flags_left_in old.bytes old.flags _ _ name c.args.changes.now c.args.cleared.now _ _ _ changed w.settle.ensures.flags (ap (λ (b : Buffers). b.flags) w.self-is) c.tidy.ensures in
           record { bytes = held; flags = marked; fit = fit_both_left old.bytes old.flags _ _ name c.args.changes.now c.args.cleared.now c.requires.fit held marked }
       | in_default-get_mut w ↦
           absurd (not_absent old.bytes old.flags _ name _ _ c.requires.fit c.write_changes.ensures c.in-Some.ensures.value w.in_default-get_mut.ensures.value)
