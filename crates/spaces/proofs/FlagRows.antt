@@ -1,6 +1,6 @@
 -- Rows of flags beside the buffers that they are of.
-use Rattle.std.proofs.Common.{◌≡◌, ℕ, zero, suc, ◌+◌, ◌-◌, ◌<◌, ◌≤◌, ◌%◌, ◌==◌, ◌⊎◌, inl, inr, Bool, true, false, not, cond, ◌||◌, if◌then◌else◌, List, [], ◌∷◌, ◌++◌, Option, None, Some, is_some, Result, Ok, Err, OnOk, OnErr, length, map, take, drop, replicate, refl, sym, ap, ap₂, subst, ◌∙◌, arith, append-nil, take-append-drop, length-append, length-take, length-drop}
-use Rattle.std.specs.List.{list_any, range_with_len}
+use Rattle.std.proofs.Common.{◌≡◌, ℕ, zero, suc, ◌+◌, ◌-◌, ◌<◌, ◌≤◌, ◌%◌, ◌==◌, ◌⊎◌, inl, inr, Bool, true, false, not, cond, ◌||◌, if◌then◌else◌, List, [], ◌∷◌, ◌++◌, Option, None, Some, is_some, Result, Ok, Err, OnOk, OnErr, length, map, take, drop, replicate, refl, sym, ap, ap₂, subst, ◌∙◌, arith, append-nil, append_assoc, take-append-drop, length-append, length-take, length-drop}
+use Rattle.std.specs.List.{All, list_any, range_with_len}
 use Rattle.std.specs.Map.{remove_entry, set_value}
 use Rattle.std.specs.Option.{unwrap_or}
 use Rattle.std.specs.Prelude.{get_or, slice_index}
@@ -8,7 +8,7 @@ use Rattle.std.proofs.lemmas.Bool.{true≢false}
 use Rattle.std.proofs.lemmas.Option.{slice_get-get_or}
 use Rattle.std.proofs.lemmas.List.{length-map, drop_all, drop_more, take_all, take_more}
 use Rattle.clmodel.specs.Cells.{held_cells, is_flagged, is_unset, masked}
-use Rattle.spaces.proofs.Changed.{row_out}
+use Rattle.spaces.proofs.Changed.{changed_many, row_out}
 use Rattle.spaces.proofs.Fills.{with_none, with_more}
 use Rattle.spaces.proofs.Parts.{masked_many}
 use Rattle.spaces.proofs.Tables.{unreplaced}
@@ -48,7 +48,7 @@ put_in true value None = None
 put_in true value (Some a) = Some value
 
 pub found_put : {A : Type 0} (es : Table A) (name other : List ℕ) (value : A) → find (set_value (is name) es value) other ≡ put_in (is name other) value (find es other)
-found_put [] name other value = by (is name other)
+found_put {A} [] name other value = by (is name other)
   where
     by : (b : Bool) → ◌≡◌ {A = Option A} None (put_in b value None)
     by true = refl
@@ -314,6 +314,22 @@ removed_last {A} (e ∷ es) name value none =
     let apart = not_there e es name none in
     ap (λ b. cond b (es ++ (name, value) ∷ []) (e ∷ remove_entry (is name) (es ++ (name, value) ∷ []))) apart.0 ∙ ap (λ l. e ∷ l) (removed_last es name value apart.1)
 
+-- a buffer and its row that are added both
+pub fit_added :
+    (bytes flags held marked : Table (List ℕ)) (name first second row marks : List ℕ) → AreFit bytes flags → find bytes name ≡ None → length marks ≡ length row → first ≡ name → second ≡ name
+    → held ≡ bytes ++ (first, row) ∷ [] → marked ≡ flags ++ (second, marks) ∷ [] → AreFit held marked
+fit_added bytes flags held marked name first second row marks fit none long p q b f =
+    subst (λ (es : Table (List ℕ)). AreFit es marked) (sym (b ∙ ap (λ n. bytes ++ (n, row) ∷ []) p))
+    (subst (λ (fs : Table (List ℕ)). AreFit (bytes ++ (name, row) ∷ []) fs) (sym (f ∙ ap (λ n. flags ++ (n, marks) ∷ []) q)) (fit_unset bytes flags name row marks fit none long))
+
+-- and one that goes again
+pub gone_again : {A : Type 0} (es now after : Table A) (name first : List ℕ) (value : A) → find es name ≡ None → first ≡ name → now ≡ es ++ (first, value) ∷ [] → after ≡ remove_entry (is name) now → after ≡ es
+gone_again es now after name first value none p added gone =
+    gone ∙ ap (remove_entry (is name)) (added ∙ ap (λ n. es ++ (n, value) ∷ []) p) ∙ removed_last es name value none
+
+pub fit_same : (bytes flags held marked : Table (List ℕ)) → AreFit bytes flags → held ≡ bytes → marked ≡ flags → AreFit held marked
+fit_same bytes flags held marked fit b f = subst (λ (es : Table (List ℕ)). AreFit es marked) (sym b) (subst (λ (fs : Table (List ℕ)). AreFit bytes fs) (sym f) fit)
+
 pub many_zeros : (n b : ℕ) → length (replicate n b) ≡ n
 many_zeros zero b = refl
 many_zeros (suc n) b = ap suc (many_zeros n b)
@@ -350,7 +366,7 @@ fit_held bytes flags held name row offset fit inside b =
     subst (λ (es : Table (List ℕ)). AreFit es flags) (sym b) (fit_bytes bytes flags name (with_bytes (row_in bytes name) offset row) fit (λ h. long_with (row_in bytes name) row offset inside))
 
 -- a pattern of one zero, again and again
-zeros_from : (first n : ℕ) → map (λ byte. get_or (0 ∷ []) (byte % 1) 0) (range_with_len first n) ≡ replicate n 0
+zeros_from : (first n : ℕ) → map {A = ℕ} {B = ℕ} (λ byte. get_or (0 ∷ []) (byte % 1) 0) (range_with_len first n) ≡ replicate n 0
 zeros_from first zero = refl
 zeros_from first (suc n) = ap₂ (λ x xs. x ∷ xs) (ap (λ k. get_or (0 ∷ []) k 0) {x = first % 1} {y = 0} (omega arith)) (zeros_from (first + 1) n)
 
@@ -523,7 +539,7 @@ over_from : (unset : ℕ → Bool) (first : ℕ) (bytes : List ℕ) (k : ℕ) �
 over_from unset first [] k h = absurd (omega (arith, h))
 over_from unset first (byte ∷ bytes) zero h = by (unset first) ∙ ap (λ n. if unset n then 1 else 0) {x = first} {y = first + 0} (omega arith)
   where
-    by : (b : Bool) → (if is_some (if b then None else Some byte) then 0 else 1) ≡ (if b then 1 else 0)
+    by : (b : Bool) → ◌≡◌ {A = ℕ} (if is_some (if b then None else Some byte) then 0 else 1) (if b then 1 else 0)
     by true = refl
     by false = refl
 over_from unset first (byte ∷ bytes) (suc k) h =
@@ -548,10 +564,10 @@ half_all old new place many past =
     ap (with_bytes old 0) (take_all place new (omega (arith, many, past))) ∙ ap (λ l. new ++ l) (drop_all (0 + length new) old (omega (arith, many))) ∙ append-nil new
 
 half_more : (old new : List ℕ) (place b : ℕ) → place < length old → length new ≡ length old → b ≡ slice_index new place → with_bytes (halfway old new place) place (b ∷ []) ≡ halfway old new (place + 1)
-half_more old new place b inside many is =
+half_more old new place b inside many here =
     let long : length (take place new) ≡ place = omega (arith, length-take place new, many, inside) in
     with_more old (take place new) (b ∷ []) 0 place (omega (arith, long)) (omega (arith, long, inside))
-    ∙ ap (with_bytes old 0) (ap (λ x. take place new ++ x ∷ []) is ∙ sym (take_more new place 0 (omega (arith, many, inside))))
+    ∙ ap (with_bytes old 0) (ap (λ x. take place new ++ x ∷ []) here ∙ sym (take_more new place 0 (omega (arith, many, inside))))
 
 pub half_here : (old new : List ℕ) (place : ℕ) → place < length old → length new ≡ length old → slice_index (halfway old new place) place ≡ slice_index old place
 half_here old new place inside many =
@@ -568,14 +584,15 @@ flags_left bytes flags both = over_many (held_cells bytes flags) ∙ held_many b
 pub byte_settled :
     (bytes flags now next : List ℕ) (place flag : ℕ) → length flags ≡ length bytes → place < length bytes → now ≡ halfway bytes (bytes_beneath (held_cells bytes flags)) place → flag ≡ slice_index flags place
     → next ≡ with_bytes now place ((if flag == 0 then slice_index now place else 0) ∷ []) → next ≡ halfway bytes (bytes_beneath (held_cells bytes flags)) (place + 1)
-byte_settled bytes flags now next place flag both inside at here is =
-    is
+byte_settled bytes flags now next place flag both inside at here next_is =
+    next_is
     ∙ ap (λ row. with_bytes row place ((if flag == 0 then slice_index row place else 0) ∷ [])) at
     ∙ half_more bytes goal place (if flag == 0 then slice_index (halfway bytes goal place) place else 0) inside many
     (ap (λ n. if flag == 0 then n else 0) (half_here bytes goal place inside many)
     ∙ ap (λ n. if n == 0 then slice_index bytes place else 0) here
     ∙ sym (chosen (slice_index flags place == 0) 0 (slice_index bytes place))
     ∙ ap (λ b. if b then 0 else slice_index bytes place) (sym (flag_at flags place (omega (arith, both, inside))))
+    ∙ ap (λ n. if is_flagged flags n then 0 else slice_index bytes place) {x = place} {y = 0 + place} (omega arith)
     ∙ sym (beneath_from (is_flagged flags) 0 bytes place))
   where
     goal : List ℕ
@@ -588,13 +605,14 @@ byte_settled bytes flags now next place flag both inside at here is =
 pub flag_settled :
     (bytes flags now next : List ℕ) (place flag : ℕ) → length flags ≡ length bytes → place < length bytes → now ≡ halfway flags (flags_over (held_cells bytes flags)) place → flag ≡ slice_index flags place
     → next ≡ with_bytes now place ((if flag == 0 then 0 else 1) ∷ []) → next ≡ halfway flags (flags_over (held_cells bytes flags)) (place + 1)
-flag_settled bytes flags now next place flag both inside at here is =
-    is
+flag_settled bytes flags now next place flag both inside at here next_is =
+    next_is
     ∙ ap (λ row. with_bytes row place ((if flag == 0 then 0 else 1) ∷ [])) at
     ∙ half_more flags goal place (if flag == 0 then 0 else 1) (omega (arith, both, inside)) many
     (ap (λ n. if n == 0 then 0 else 1) here
     ∙ sym (chosen (slice_index flags place == 0) 1 0)
     ∙ ap (λ b. if b then 1 else 0) (sym (flag_at flags place (omega (arith, both, inside))))
+    ∙ ap (λ n. if is_flagged flags n then 1 else 0) {x = place} {y = 0 + place} (omega arith)
     ∙ sym (over_from (is_flagged flags) 0 bytes place inside))
   where
     goal : List ℕ
@@ -605,5 +623,125 @@ flag_settled bytes flags now next place flag both inside at here is =
 
 -- what is written where it is already
 pub with_same : (row : List ℕ) (place b : ℕ) → place < length row → b ≡ slice_index row place → with_bytes row place (b ∷ []) ≡ row
-with_same row place b inside is =
-    ap (λ x. take place row ++ x ∷ drop (place + 1) row) is ∙ ap (λ l. take place row ++ l) (sym (drop_more row place 0 inside)) ∙ take-append-drop place row
+with_same row place b inside here =
+    ap (λ x. take place row ++ x ∷ [] ++ drop (place + 1) row) here
+    ∙ append_assoc (take place row) (slice_index row place ∷ []) (drop (place + 1) row)
+    ∙ ap (λ l. take place row ++ l) (sym (drop_more row place 0 inside))
+    ∙ take-append-drop place row
+
+-- ---- changes of one buffer
+
+-- a value in place of one that was put
+pub put_twice : {A : Type 0} (es : Table A) (name : List ℕ) (one other : A) → set_value (is name) (set_value (is name) es one) other ≡ set_value (is name) es other
+put_twice [] name one other = refl
+put_twice {A} (e ∷ es) name one other = go (is name e.0) refl (put_twice es name one other)
+  where
+    go : (b : Bool) → is name e.0 ≡ b → set_value (is name) (set_value (is name) es one) other ≡ set_value (is name) es other
+        → set_value (is name) (cond b ((e.0, one) ∷ es) (e ∷ set_value (is name) es one)) other ≡ cond b ((e.0, other) ∷ es) (e ∷ set_value (is name) es other)
+    go true p rest = ap (λ z. cond z ((e.0, other) ∷ es) ((e.0, one) ∷ set_value (is name) es other)) p
+    go false p rest = ap (λ z. cond z ((e.0, other) ∷ set_value (is name) es one) (e ∷ set_value (is name) (set_value (is name) es one) other)) p ∙ ap (λ l. e ∷ l) rest
+
+none_long : (xs : List ℕ) → length xs ≡ 0 → xs ≡ []
+none_long [] h = refl
+none_long (x ∷ xs) h = absurd (omega (arith, h))
+
+-- the bytes of a buffer without flags
+pub changed_set :
+    (bytes flags held : Table (List ℕ)) (name : List ℕ) (one other : Changed) → find flags name ≡ None → held ≡ set_value (is name) bytes (with_changes (row_in bytes name) one) → held ≡ bytes_with bytes flags name one other
+changed_set bytes flags held name one other none h =
+    h
+    ∙ ap (set_value (is name) bytes)
+    (sym (beneath_set (with_changes (row_in bytes name) one) (with_changes (row_in flags name) other) (none_long (with_changes (row_in flags name) other) (changed_many (row_in flags name) other ∙ ap long_of none))))
+
+pub fit_changed : (bytes flags held : Table (List ℕ)) (name : List ℕ) (one : Changed) → AreFit bytes flags → held ≡ set_value (is name) bytes (with_changes (row_in bytes name) one) → AreFit held flags
+fit_changed bytes flags held name one fit h =
+    subst (λ (es : Table (List ℕ)). AreFit es flags) (sym h) (fit_bytes bytes flags name (with_changes (row_in bytes name) one) fit (λ there. changed_many (row_in bytes name) one))
+
+-- what has flags is there once its bytes are changed
+still_there : (bytes flags now : Table (List ℕ)) (name mark row : List ℕ) → AreFit bytes flags → now ≡ set_value (is name) bytes row → Some mark ≡ find flags name → find now name ≡ Some row
+still_there bytes flags now name mark row fit n f =
+    ap (λ (es : Table (List ℕ)). find es name) n
+    ∙ found_put bytes name name row
+    ∙ ap (λ z. put_in z row (find bytes name)) ((bytes_decides name name).1 refl)
+    ∙ put_there row (find bytes name) (fit.rows name (sym (ap is_some f))).0
+
+pub not_absent : (bytes flags now : Table (List ℕ)) (name mark row : List ℕ) → AreFit bytes flags → now ≡ set_value (is name) bytes row → Some mark ≡ find flags name → None ≡ find now name → ⊥
+not_absent bytes flags now name mark row fit n f g = true≢false (sym (ap is_some (g ∙ still_there bytes flags now name mark row fit n f)))
+
+-- the bytes and the flags of a buffer that has flags, once both are changed
+pub record AreChanged (bytes flags : Table (List ℕ)) (name : List ℕ) (one other : Changed) (row marks : List ℕ) : Type 0 where
+  pub row_is : row ≡ with_changes (row_in bytes name) one
+  pub marks_are : marks ≡ with_changes (row_in flags name) other
+  pub both : length marks ≡ length row
+
+pub changed_both :
+    (bytes flags now : Table (List ℕ)) (name : List ℕ) (one other : Changed) (mark row marks : List ℕ) → AreFit bytes flags → now ≡ set_value (is name) bytes (with_changes (row_in bytes name) one) → Some mark ≡ find flags name
+    → marks ≡ with_changes mark other → Some row ≡ find now name → AreChanged bytes flags name one other row marks
+changed_both bytes flags now name one other mark row marks fit n f m g =
+    record {
+      row_is = first;
+      marks_are = second;
+      both =
+          ap length second ∙ changed_many (row_in flags name) other ∙ (fit.rows name (sym (ap is_some f))).1 ∙ sym (changed_many (row_in bytes name) one) ∙ sym (ap length first);
+    }
+  where
+    first : row ≡ with_changes (row_in bytes name) one
+    first = ap (λ (o : Option (List ℕ)). unwrap_or o []) (g ∙ still_there bytes flags now name mark (with_changes (row_in bytes name) one) fit n f)
+
+    second : marks ≡ with_changes (row_in flags name) other
+    second = m ∙ ap (λ (o : Option (List ℕ)). with_changes (unwrap_or o []) other) f
+
+-- and once they are in the form that a launch leaves
+pub bytes_left_in :
+    (bytes flags now held : Table (List ℕ)) (name : List ℕ) (one other : Changed) (row marks left : List ℕ) → AreChanged bytes flags name one other row marks → now ≡ set_value (is name) bytes (with_changes (row_in bytes name) one)
+    → left ≡ bytes_beneath (held_cells row marks) → held ≡ set_value (is name) now left → held ≡ bytes_with bytes flags name one other
+bytes_left_in bytes flags now held name one other row marks left changed n l h =
+    h
+    ∙ ap (λ (es : Table (List ℕ)). set_value (is name) es left) n
+    ∙ put_twice bytes name (with_changes (row_in bytes name) one) left
+    ∙ ap (set_value (is name) bytes) (l ∙ ap₂ (λ r m. bytes_beneath (held_cells r m)) changed.row_is changed.marks_are)
+
+pub flags_left_in :
+    (bytes flags held marked : Table (List ℕ)) (name : List ℕ) (one other : Changed) (row marks left : List ℕ) → AreChanged bytes flags name one other row marks → left ≡ flags_over (held_cells row marks)
+    → held ≡ set_value (is name) flags left → marked ≡ tidied held name → marked ≡ flags_with bytes flags name one other
+flags_left_in bytes flags held marked name one other row marks left changed l h t =
+    t ∙ ap (λ (es : Table (List ℕ)). tidied es name) (h ∙ ap (set_value (is name) flags) (l ∙ ap₂ (λ r m. flags_over (held_cells r m)) changed.row_is changed.marks_are))
+
+-- both fit
+pub fit_both_left :
+    (bytes flags held marked : Table (List ℕ)) (name : List ℕ) (one other : Changed) → AreFit bytes flags → held ≡ bytes_with bytes flags name one other → marked ≡ flags_with bytes flags name one other → AreFit held marked
+fit_both_left bytes flags held marked name one other fit b f =
+    fit_left bytes flags held marked name _ _ fit (left_many (with_changes (row_in bytes name) one) (with_changes (row_in flags name) other)) b f
+
+-- ---- copies
+
+-- a row that may be new, with flags that are put
+pub fit_flagged :
+    (bytes flags made : Table (List ℕ)) (name row : List ℕ) (size : ℕ) → AreFit bytes flags → is_some (find bytes name) ≡ true → size ≡ length (row_in bytes name) → made ≡ with_row flags name size row → AreFit bytes made
+fit_flagged bytes flags made name row size fit there long m = subst (λ (fs : Table (List ℕ)). AreFit bytes fs) (sym m) (fit_with_row bytes flags name row size fit there long)
+
+pub fit_put :
+    (bytes made marked : Table (List ℕ)) (name row : List ℕ) (offset : ℕ) → AreFit bytes made → offset + length row ≤ length (row_in bytes name) → marked ≡ with_flags made name offset row → AreFit bytes marked
+fit_put bytes made marked name row offset fit inside m =
+    subst (λ (fs : Table (List ℕ)). AreFit bytes fs) (sym m) (fit_with bytes made name row offset fit (λ h. omega (arith, inside, (fit.rows name h).1)))
+
+-- what is copied is as long as it is to be
+pub many_copied :
+    (row copied from held : List ℕ) (offset count : ℕ) → row ≡ copied → copied ≡ take (offset + count - offset) (drop offset from) → from ≡ held → offset + count ≤ length held → length row ≡ count
+many_copied row copied from held offset count r c f inside =
+    ap length (r ∙ c ∙ ap (λ l. take (offset + count - offset) (drop offset l)) f) ∙ omega (arith, length-take (offset + count - offset) (drop offset held), length-drop offset held, inside)
+
+-- bytes that are written once the flags are as they are to be
+pub fit_copied :
+    (bytes now flags held : Table (List ℕ)) (name row : List ℕ) (offset count : ℕ) → AreFit now flags → now ≡ bytes → length row ≡ count → offset + count ≤ length (row_in bytes name)
+    → held ≡ set_value (is name) now (with_bytes (row_in now name) offset row) → AreFit held flags
+fit_copied bytes now flags held name row offset count fit same long inside b =
+    fit_held now flags held name row offset fit (omega (arith, long, ap (λ (es : Table (List ℕ)). length (row_in es name)) same, inside)) b
+
+-- ---- what a launch leaves, name by name
+
+pub first_of : {X : Type 0} (P : X → Type 0) (x : X) (xs ys : List X) → All P ys → ys ≡ x ∷ xs → P x
+first_of P x xs ys h e = subst (All P) e h 0 x (omega arith)
+
+pub rest_of : {X : Type 0} (P : X → Type 0) (x : X) (xs ys : List X) → All P ys → ys ≡ x ∷ xs → All P xs
+rest_of P x xs ys h e = λ k d b. subst (All P) e h (suc k) d (omega (arith, b))

@@ -3,7 +3,7 @@
 use Rattle.std.specs.Prelude.{◌≡◌, ℕ, ◌==◌, Bool, true, not, ◌||◌, if◌then◌else◌, List, [], ◌∷◌, ◌++◌, length, map, take, drop, replicate, Option, None, is_some, ⊤}
 use Rattle.std.specs.List.{list_any}
 use Rattle.std.specs.Map.{remove_entry, set_value}
-use Rattle.std.specs.Option.{unwrap_or, MatchOption}
+use Rattle.std.specs.Option.{unwrap_or}
 use Rattle.clmodel.specs.Cells.{held_cells}
 use Rattle.spaces.specs.Buffers.{row_in, with_bytes}
 use Rattle.spaces.specs.Changes.{Changed, with_changes}

@@ -1,7 +1,6 @@
-use Rattle.std.proofs.Common.{◌≡◌, ◌<◌, length, sym, ap, ◌∙◌, arith}
+use Rattle.std.proofs.Common.{◌≡◌, ◌<◌, length, ap, ◌∙◌, arith}
 use Rattle.std.specs.Prelude.{slice_index}
 use Rattle.clmodel.specs.Cells.{held_cells}
-use Rattle.std.proofs.lemmas.List.{get_or_read}
 use Rattle.spaces.specs.FlagRows.{bytes_beneath, flags_over}
 use Rattle.spaces.proofs.FlagRows.{half_none, half_all, half_here, byte_settled, flag_settled, bytes_left, flags_left}
 use Rattle.spaces.proofs.left_bytes.settle.Goals as goal
@@ -18,8 +17,8 @@ loop-place-preserved c =
     let flags = c.args.flags.now in
     let place = c.loop-place.place in
     let inside : place < length bytes = omega (arith, c.requires, c.loop-place-test.true) in
-    let here : c.flag.result ≡ slice_index flags place =
-    get_or_read c.loop-place.flags _ _ (omega (arith, c.loop-place-test.true)) c.index.ensures 0 ∙ ap (λ row. slice_index row place) c.loop-place.invariant.flags
+    let here : slice_index c.as_slice.result.now place ≡ slice_index flags place =
+    ap (λ row. slice_index row place) (c.as_slice.ensures ∙ c.loop-place.invariant.flags)
     ∙ half_here flags (flags_over (held_cells bytes flags)) place (omega (arith, c.loop-place-test.true)) (flags_left bytes flags c.requires) in
     record {
       bytes = byte_settled bytes flags _ _ place _ c.requires inside c.loop-place.invariant.bytes here c.settle_byte.ensures;

@@ -1,6 +1,6 @@
 use Rattle.std.proofs.Common.{length, refl, arith}
 use Rattle.spaces.proofs.FlagRows.{fit_written}
-use Rattle.spaces.proofs.host_bytes.Buffers.write.Goals as goal
+use Rattle.spaces.proofs.buffers.Buffers.write.Goals as goal
 
 pub put_set-requires : goal.put_set-requires
 put_set-requires c h = omega (arith, (c.requires.fit.rows c.args.name.now h).1, c.requires.range)

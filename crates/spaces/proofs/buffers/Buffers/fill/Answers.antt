@@ -2,7 +2,7 @@ use Rattle.std.proofs.Common.{sym, arith}
 use Rattle.spaces.specs.Buffers.{repeated}
 use Rattle.spaces.proofs.Fills.{repeated_length}
 use Rattle.spaces.proofs.FlagRows.{fit_written}
-use Rattle.spaces.proofs.host_bytes.Buffers.fill.Goals as goal
+use Rattle.spaces.proofs.buffers.Buffers.fill.Goals as goal
 
 pub put_set-requires : goal.put_set-requires
 put_set-requires c h = omega (arith, (c.requires.fit.rows c.args.name.now h).1, c.requires.range)

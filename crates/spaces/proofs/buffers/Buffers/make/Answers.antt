@@ -1,5 +1,5 @@
 use Rattle.spaces.proofs.FlagRows.{fit_inserted}
-use Rattle.spaces.proofs.host_bytes.Buffers.make.Goals as goal
+use Rattle.spaces.proofs.buffers.Buffers.make.Goals as goal
 
 pub returns-clause-fit : goal.returns-clause-fit
 returns-clause-fit c =

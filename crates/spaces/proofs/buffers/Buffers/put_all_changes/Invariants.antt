@@ -1,6 +1,6 @@
 use Rattle.std.proofs.Common.{◌≡◌, drop}
 use Rattle.spaces.specs.FlagRows.{AreFit, both_with_changes}
-use Rattle.spaces.proofs.left_bytes.Buffers.put_all_changes.Given as goal
+use Rattle.spaces.proofs.buffers.Buffers.put_all_changes.Given as goal
 
 -- both tables so far with the changes that are left are those with all changes
 abbrev pub invariant-loop-place : goal.invariant-loop-place

@@ -3,7 +3,7 @@ use Rattle.std.specs.Map.{remove_entry}
 use Rattle.spaces.specs.FlagRows.{AreFit}
 use Rattle.spaces.specs.Tables.{Table, is}
 use Rattle.spaces.proofs.FlagRows.{fit_removed}
-use Rattle.spaces.proofs.host_bytes.Buffers.remove.Goals as goal
+use Rattle.spaces.proofs.buffers.Buffers.remove.Goals as goal
 
 pub returns-clause-fit : goal.returns-clause-fit
 returns-clause-fit c =

@@ -1,7 +1,7 @@
 use Rattle.std.proofs.Common.{◌≡◌, ◌+◌, ◌-◌}
 use Rattle.spaces.specs.Buffers.{is_unset_in}
 use Rattle.spaces.specs.Parts.{marked_run}
-use Rattle.spaces.proofs.host_bytes.Buffers.unset_run.Given as goal
+use Rattle.spaces.proofs.buffers.Buffers.unset_run.Given as goal
 
 -- all so far are unset: the run is these and that of the rest
 abbrev pub invariant-loop-byte : goal.invariant-loop-byte

@@ -1,7 +1,7 @@
 use Rattle.std.proofs.Common.{ap, ◌∙◌}
 use Rattle.spaces.specs.FlagRows.{tidied}
 use Rattle.spaces.proofs.FlagRows.{fit_left}
-use Rattle.spaces.proofs.left_bytes.Buffers.put_contents.Goals as goal
+use Rattle.spaces.proofs.buffers.Buffers.put_contents.Goals as goal
 
 pub returns-clause-fit : goal.returns-clause-fit
 returns-clause-fit c =

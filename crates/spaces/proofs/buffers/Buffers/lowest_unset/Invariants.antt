@@ -1,7 +1,7 @@
 use Rattle.std.proofs.Common.{◌≡◌, ◌+◌, ◌-◌}
 use Rattle.spaces.specs.Buffers.{is_unset_in}
 use Rattle.spaces.specs.Parts.{lowest_marked}
-use Rattle.spaces.proofs.host_bytes.Buffers.lowest_unset.Given as goal
+use Rattle.spaces.proofs.buffers.Buffers.lowest_unset.Given as goal
 
 -- the lowest of all is that of the rest
 abbrev pub invariant-loop-byte : goal.invariant-loop-byte
