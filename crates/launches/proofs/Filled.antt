@@ -2,7 +2,6 @@
 use Rattle.std.proofs.Common.{◌≡◌, ℕ, zero, suc, ◌+◌, Bool, true, false, if◌then◌else◌, Option, None, Some, List, [], ◌∷◌, length, map, refl, sym, ap, ap₂, ◌∙◌, arith}
 use Rattle.std.specs.Prelude.{slice_get, slice_index_or}
 use Rattle.std.proofs.Math.Path.{fun_ext}
-use Rattle.std.proofs.lemmas.List.{length-map}
 use Rattle.clmodel.specs.Cells.{cells_of, is_flagged, masked, held_cells}
 use Rattle.clmodel.specs.Next.{launch_on, launch_of}
 use Rattle.clmodel.specs.Launch.{Launch, AllSet}

@@ -1,6 +1,4 @@
-use Rattle.std.proofs.Common.{◌≡◌, List, [], sym, ◌∙◌, subst}
-use Rattle.clmodel.specs.declared.action.Answer.{Answer}
-use Rattle.item_step.specs.Running.{Arrives}
+use Rattle.std.proofs.Common.{subst}
 use Rattle.item_step.proofs.Going.{at_the_start}
 use Rattle.launches.specs.Items.{Runs}
 use Rattle.launches.proofs.slot.Slot.begin.Goals as goal
