@@ -1,6 +1,7 @@
 pub mod Programs
 mod Merged
 pub mod OnBuffers
+pub mod Unset
 pub mod Runs
 pub mod Written
 pub mod Launches

@@ -1,7 +1,9 @@
 -- What a device keeps to.
-use Rattle.std.specs.Prelude.{◌≡◌, ◌+◌, ◌*◌, ◌≤◌, ℕ, List, Some, is_some, length, true}
+use Rattle.std.specs.Prelude.{◌≡◌, ◌+◌, ◌*◌, ◌≤◌, ℕ, List, [], ◌∷◌, Some, is_some, length, true}
+use Rattle.std.specs.Coded.{×_prop}
 use Rattle.std.specs.List.{All}
 use Rattle.std.specs.Map.{values_of}
+use Rattle.std.proofs.Props.{props}
 use Rattle.clmodel.specs.Next.{next}
 use Rattle.clmodel.specs.Setup.{Setup}
 use Rattle.clmodel.specs.Tree.{Program, program}
@@ -12,6 +14,7 @@ use Rattle.cltypes.specs.declared.checked.Checked.{Checked}
 use Rattle.host_commands.specs.Kernels.{with_argument}
 use Rattle.lower.specs.Bounds.{per_node}
 use Rattle.lower.specs.Lists.{Lists}
+use Rattle.spaces.specs.FlagRows.{AreFit, AreOnce}
 use Rattle.spaces.specs.Tables.{Table, find}
 use Rattle.regcode.specs.Listing.{Listing}
 use Rattle.regcode.specs.Machine.{acts}
@@ -51,3 +54,12 @@ AllCompiled programs kernels = All (IsCompiled programs) (values_of kernels)
 -- a kernel with an argument set; its code stays
 abbrev pub with_argument_set : CompiledKernel → ℕ → Argument → CompiledKernel
 with_argument_set compiled index argument = record compiled { kernel = with_argument compiled.kernel index argument }
+
+-- that no name has two rows is a fact, which holds in one way
+AreOnce-prop : (rows : Table (List ℕ)) → IsProp (AreOnce rows)
+AreOnce-prop [] = hlevel props
+AreOnce-prop (row ∷ rows) = ×_prop (hlevel props) (AreOnce-prop rows)
+
+-- and so is that rows of flags are those of buffers (own)
+pub AreFit-prop : (bytes flags : Table (List ℕ)) → IsProp (AreFit bytes flags)
+AreFit-prop bytes flags = hlevel (props, AreOnce-prop)

@@ -1,5 +1,5 @@
 -- A launch that wasn't refused, and what it came to.
-use Rattle.std.specs.Prelude.{◌≡◌, Bool, None, map}
+use Rattle.std.specs.Prelude.{◌≡◌, ℕ, Bool, None, List, map}
 use Rattle.clmodel.specs.Setup.{Setup, buffer_names}
 use Rattle.clmodel.specs.Tree.{program}
 use Rattle.clmodel.specs.declared.setup.Range.{Range}

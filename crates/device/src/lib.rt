@@ -18,7 +18,7 @@ ghost use Rattle.item_step.specs.Launches.{setup_of};
 ghost use Rattle.launches.specs.Groups.{HasGroups};
 ghost use Rattle.spaces.specs.FlagRows.{AreFit};
 ghost use Rattle.spaces.specs.Tables.{find};
-ghost use Rattle.device.specs.Kept.{ActsAs, AllCompiled, IsCodeOf};
+ghost use Rattle.device.specs.Kept.{ActsAs, AllCompiled, AreFit-prop, IsCodeOf};
 
 mod compiled;
 mod launching;
@@ -66,7 +66,7 @@ pub struct Device {
     programs: Table<Checked>,
     kernels: Table<CompiledKernel>,
     ghost kept: { AllCompiled programs kernels },
-    ghost fit: { AreFit buffers.bytes buffers.flags },
+    ghost fit: { AreFit buffers.bytes buffers.flags } by { AreFit-prop buffers.bytes buffers.flags },
 }
 
 impl Device {
