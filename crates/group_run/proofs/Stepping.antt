@@ -4,13 +4,12 @@ use Rattle.std.specs.Prelude.{reverse, slice_get, Result, Ok, Err, IfOk, Box}
 use Rattle.std.specs.Box.{box_value}
 use Rattle.std.specs.declared.alloc.Global.{Global}
 use Rattle.std.specs.Option.{option_map}
-use Rattle.std.proofs.lemmas.Bool.{cases_eq}
 use Rattle.std.proofs.lemmas.List.{append_assoc, append-nil, reverse-append, length-reverse}
 use Rattle.std.proofs.lemmas.Option.{slice_get_within}
 use Rattle.clmodel.specs.Cells.{size_of, reads, found, answer_to, effect, lowest_unset}
 use Rattle.clmodel.specs.Launch.{Launch, within_group, access_in, region_of, location_of, kind_of, group_of, bytes_of, first_byte}
 use Rattle.clmodel.specs.Run.{State, Events, Memory, step, next_action, straggler, byte_at, by_region, access_of, with_cells, released, changed}
-use Rattle.clmodel.specs.Law.{Makes, Reports, newest_conflict, conflict_fault, unset_turn, access_turn, item_turn, is_over}
+use Rattle.clmodel.specs.Law.{Makes, Reports, newest_conflict, conflict_fault, unset_turn, access_turn, item_turn}
 use Rattle.clmodel.specs.declared.access.Access.{Access}
 use Rattle.clmodel.specs.declared.access.Object.{Object}
 use Rattle.clmodel.specs.declared.access.Operation.{Operation}
@@ -23,10 +22,8 @@ use Rattle.clmodel.specs.declared.action.Fences.{Fences}
 use Rattle.clmodel.specs.declared.action.Instance.{Instance}
 use Rattle.clmodel.specs.declared.fault.Fault.{Fault}
 use Rattle.clmodel.specs.declared.fault.Fault.TheVariants as fault
-use Rattle.clmodel.specs.declared.schedule.Event.{Event}
 use Rattle.clmodel.specs.declared.schedule.Event.TheVariants.{Item, Release}
 use Rattle.clmodel.proofs.CellLaws.{found_unset}
-use Rattle.clmodel.proofs.Ending.{one_more}
 use Rattle.clmodel.proofs.Steps.{none_some, if_true, if_false, made, region_for, item_at, release_at, map_some, map_none}
 use Rattle.item_step.specs.BriefActions.{action_from}
 use Rattle.item_step.specs.declared.brief_action.BriefAction.{BriefAction}
@@ -35,7 +32,7 @@ use Rattle.access_list.specs.declared.log.Entry.{Entry}
 use Rattle.access_list.specs.declared.log.Hit.{Hit}
 use Rattle.launches.specs.Objects.{ObjectsHold, IsMoved, space_of}
 use Rattle.group_run.specs.Fits.{Fits, AreAnswered}
-use Rattle.joining.specs.Group.{Plan, IsGroup}
+use Rattle.joining.specs.Group.{Plan}
 use Rattle.group_run.specs.Logs.{conflict_of, numbered, Notes, IsLogged, IsJudged, after_fences}
 use Rattle.group_run.specs.Loops.{Steps, IsMade, judged_as}
 use Rattle.group_run.specs.declared.machine.Made.{Made}

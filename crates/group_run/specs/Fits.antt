@@ -1,6 +1,5 @@
 -- How what a program holds of a group fits a state of its launch (own).
-use Rattle.std.specs.Prelude.{◌≡◌, ℕ, ◌+◌, ◌-◌, ◌*◌, ◌<◌, ◌≤◌, ◌^◌, false, Bool, Option, Some, List, ◌∷◌, ◌++◌, length, slice_get}
-use Rattle.clmodel.specs.Launch.{Launch}
+use Rattle.std.specs.Prelude.{◌≡◌, ℕ, ◌+◌, ◌≤◌, false, Bool, Option, Some, List, ◌∷◌, ◌++◌, length, slice_get}
 use Rattle.clmodel.specs.Run.{State, Events}
 use Rattle.clmodel.specs.declared.action.Action.{Action}
 use Rattle.clmodel.specs.declared.action.Answer.{Answer}

@@ -1,4 +1,4 @@
-use Rattle.std.proofs.Common.{◌≡◌, ◌+◌, sym, ap, ap₂, ◌∙◌, arith}
+use Rattle.std.proofs.Common.{◌+◌, sym, ap, ap₂, ◌∙◌, arith}
 use Rattle.std.specs.Prelude.{Some}
 use Rattle.clmodel.specs.Run.{same_stop}
 use Rattle.clmodel.specs.Law.{Reports}

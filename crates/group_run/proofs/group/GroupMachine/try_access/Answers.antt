@@ -1,11 +1,6 @@
-use Rattle.std.proofs.Common.{rules, to_z, of_z, w64, ◌≡◌, ◌+◌, length, refl, sym, ap, ◌∙◌, subst}
-use Rattle.std.specs.Prelude.{option_map}
-use Rattle.std.specs.Box.{box_value}
-use Rattle.clmodel.specs.Launch.{region_of}
-use Rattle.clmodel.specs.declared.access.Object.TheVariants as object
+use Rattle.std.proofs.Common.{rules, to_z, of_z, w64, ◌≡◌, ◌+◌, length, sym, ap, ◌∙◌}
 use Rattle.joining.specs.Group.{Plan}
 use Rattle.access_list.specs.Log.{entry_of}
-use Rattle.group_run.specs.Logs.{IsJudged}
 use Rattle.group_run.proofs.Stepping.{place_read}
 use Rattle.group_run.proofs.Trying.{local_tried, none_tried, some_tried}
 use Rattle.group_run.specs.Items.{acts_at}
