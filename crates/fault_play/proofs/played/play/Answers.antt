@@ -1,4 +1,4 @@
-use Rattle.std.proofs.Common.{◌≡◌, ◌∙◌, ℕ, ◌++◌, None, Some, map, take, ap, ap₂, sym, subst}
+use Rattle.std.proofs.Common.{◌≡◌, ◌∙◌, ℕ, ◌++◌, None, map, take, ap, ap₂, sym, subst}
 use Rattle.clmodel.specs.Launch.{Launch}
 use Rattle.clmodel.specs.Law.{Reaches}
 use Rattle.clmodel.specs.Outcome.{events_of}
@@ -9,7 +9,7 @@ use Rattle.item_step.specs.Launches.{setup_of, started}
 use Rattle.item_step.specs.Running.{Running}
 use Rattle.launches.specs.Groups.{IsRunnable, filled, launch_in}
 use Rattle.launches.specs.declared.loaded.LoadedLaunch.{LoadedLaunch}
-use Rattle.replay.proofs.Reaching.{map_map, never_reaches}
+use Rattle.replay.proofs.Reaching.{never_reaches}
 use Rattle.clmodel.specs.Cells.{held_cells}
 use Rattle.launches.proofs.Filled.{filled_in}
 use Rattle.spaces.specs.Buffers.{bytes_in, flags_in}
