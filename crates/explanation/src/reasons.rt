@@ -125,8 +125,8 @@ pub enum Reason {
     ZeroDivisor {
         left: Option<i128>,
     },
-    /// No command and no launch before this one has left a value in the byte of a buffer: nothing has set it, or a copy of
-    /// unset bytes came last.
+    /// No command and no launch before this one has left a value in the byte of a buffer: nothing has set it, or a copy
+    /// of unset bytes came last.
     NeverSet {
         buffer: String,
     },

@@ -41,8 +41,8 @@ abbrev pub logged_too : State → Access → State
 logged_too state x = record state { log = x ∷ state.log }
 
 -- what comes of noting an action of an item as if it were done, in each state that fitted and in which it is the item's
--- next: it is no access of a buffer in range; or it is noted, with the fault that its log reports, and the number of its
--- event, one more than which has 32 bits
+-- next: it is no access of a buffer in range; or it is noted, with the fault that its log reports, and the number of
+-- its event, one more than which has 32 bits
 abbrev pub IsTried : Plan → (Events → State → Type 0) → (Events → State → Type 0) → ℕ → Action → Option Tried → Type 0
 IsTried plan old new item act None =
     (events : Events) (state : State) → old events state → next_action plan.launch state item ≡ act → new events state × NoBuffer plan.launch state item act
@@ -52,8 +52,8 @@ IsTried plan old new item act (Some tried) =
     × new (events ++ Item item ∷ []) (logged_too state x) × (option_map box_value tried.own ≡ option_map (conflict_fault plan.launch) (newest_conflict plan.launch (x ∷ state.log)))
     × (length events + 1 < 2 ^ 32)
 
--- a group's run stopped at unset bytes of this access of a buffer, which its log and its events have as if it were made,
--- with the fault of its conflict with the group's own accesses
+-- a group's run stopped at unset bytes of this access of a buffer, which its log and its events have as if it were
+-- made, with the fault of its conflict with the group's own accesses
 pub record StopsUnset (plan : Plan) (fits : Events → State → Type 0) (origin : State) (events : Events) (stopped : Fault) (told : Access) (event : ℕ) (own : Option Fault) : Type 0 where
   pub before : Events
   pub state : State

@@ -115,8 +115,8 @@ pub trait Machine {
         ensures ticks_less { IfOk result (λ made. made ≡ Made.Done → ticks self.new k < ticks self.old k) }
         ensures made { IfOk result (IsMade (plan self.old) (fits self.old) (fits self.new) ((plan self.old).first + k) (Access object element operation)) };
 
-    /// Notes this access, which is what an item does next, as if it were made, if it is one of a buffer and in range. An
-    /// error is out of memory, as is an event whose number has no 32 bits.
+    /// Notes this access, which is what an item does next, as if it were made, if it is one of a buffer and in range.
+    /// An error is out of memory, as is an event whose number has no 32 bits.
     fn try_access(
         &mut self,
         k: u32,

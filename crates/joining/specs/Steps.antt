@@ -93,8 +93,8 @@ BytesAreJoined =
     → IsPart launch group part → crossing launch lower.log part.end.log ≡ None
     → (x : Access) → Logged part.end.log x → writes x.kind ≡ true → (byte : ℕ) → at_byte x.region byte x ≡ true → IsJoinedByte launch lower part x byte
 
--- Where nothing crosses, a further group that didn't stop at unset bytes of a buffer has the same report after the lower
--- groups: no other group has its local objects (3.3, C99 6.7.8).
+-- Where nothing crosses, a further group that didn't stop at unset bytes of a buffer has the same report after the
+-- lower groups: no other group has its local objects (3.3, C99 6.7.8).
 abbrev pub OtherStopsStay : Type 0
 OtherStopsStay =
     (launch : Launch) (group : ℕ) (lower : Joined) (part : Part) → IsGrouped launch → IsJoined launch group lower → HasGroup launch group

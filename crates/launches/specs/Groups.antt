@@ -30,7 +30,8 @@ pub record IsRunnable (launch : Launch) : Type 0 where
 abbrev pub SetupsAreRunnable : Type 0
 SetupsAreRunnable = (setup : Setup) (buffers : Buffers) → 0 < group_items setup.range → HasGroups setup → IsRunnable (launch_in setup buffers)
 
--- what a buffer holds at the start from a byte on, where `unset` says of each whether it has no value (5.2.1, C99 6.7.8)
+-- what a buffer holds at the start from a byte on, where `unset` says of each whether it has no value (5.2.1, C99
+-- 6.7.8)
 abbrev pub cells_from_start : (ℕ → Bool) → ℕ → List ℕ → List (Option ℕ)
 cells_from_start unset byte [] = []
 cells_from_start unset byte (b ∷ bytes) = (if unset byte then None else Some b) ∷ cells_from_start unset (suc byte) bytes

@@ -42,8 +42,8 @@ pub record FaultsSo (m : Machine) (setup : Setup) (fault : Fault) (schedule : Sc
   pub faults : Launches m setup (reply.Fault fault schedule) m
   pub alone : (r : Reply) (new : Machine) → Launches m setup r new → (r ≡ reply.Fault fault schedule) × (new ≡ m)
 
--- The fault of a launch is in its kernel: on each machine, whatever bytes its buffers hold, as many and the same of them
--- unset, and whatever numbers its arguments are, the launch is answered by this fault with this schedule.
+-- The fault of a launch is in its kernel: on each machine, whatever bytes its buffers hold, as many and the same of
+-- them unset, and whatever numbers its arguments are, the launch is answered by this fault with this schedule.
 abbrev pub IsInKernel : Machine → Setup → Fault → Schedule → Type 0
 IsInKernel old setup fault schedule =
     (other : Machine) (given : List (Option Argument)) → OtherNumbers setup.arguments given → OtherBytes (buffer_names setup) (bytes_of old) (bytes_of other)
