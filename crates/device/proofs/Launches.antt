@@ -22,7 +22,7 @@ use Rattle.host_commands.specs.declared.command.Command.TheVariants as command
 use Rattle.host_commands.specs.declared.command.Refusal.{Refusal}
 use Rattle.host_commands.specs.declared.command.Reply.TheVariants as reply
 use Rattle.device.specs.Ends.{EndsBy}
-use Rattle.device.specs.Machine.{Machine, Answers, Launches, LaunchesBy, LaunchesOrdered, first, holding, launch_at, row, kernel_of, setup_of}
+use Rattle.device.specs.Machine.{Machine, Answers, Launches, LaunchesBy, LaunchesOrdered, first, launch_at, row, kernel_of, setup_of}
 use Rattle.device.specs.Prepared.{Came, Comes, IsPrepared}
 use Rattle.device.specs.declared.prepared.Launched.{Launched}
 use Rattle.device.specs.declared.running.RunEnd.{RunEnd}
