@@ -9,20 +9,25 @@ use Rattle.clmodel.specs.declared.fault.Fault.{Fault}
 use Rattle.clmodel.specs.declared.schedule.EventRun.{EventRun}
 use Rattle.clmodel.specs.declared.setup.Range.{Range}
 use Rattle.clmodel.specs.declared.outcome.Contents.{Contents}
-use Rattle.group_join.specs.Ends.{all_cells}
+use Rattle.group_join.specs.Ends.{all_cells, flags_of}
+use Rattle.item_step.specs.Launches as launches
+use Rattle.item_step.specs.declared.launch.Launch.{Launch as Runs}
+use Rattle.launches.specs.Groups.{launch_in}
 use Rattle.spaces.specs.Buffers.{row_in}
 use Rattle.spaces.specs.Changes.{Changed, all_with_changes}
 use Rattle.spaces.specs.FlagRows.{both_with_changes, with_all_flags}
 use Rattle.spaces.specs.Tables.{Table, with_values}
+use Rattle.spaces.specs.declared.buffers.Buffers.{Buffers}
 use Rattle.host_commands.specs.declared.command.Command.TheVariants as command
 use Rattle.host_commands.specs.declared.command.Refusal.{Refusal}
 use Rattle.host_commands.specs.declared.command.Reply.TheVariants as reply
 use Rattle.device.specs.Ends.{EndsBy}
-use Rattle.device.specs.Machine.{Machine, Answers, Launches, LaunchesBy, LaunchesOrdered, first, holding, launch_at, row, kernel_of, setup_of}
-use Rattle.device.specs.Prepared.{Came, Comes}
+use Rattle.device.specs.Machine.{Machine, Answers, Launches, LaunchesBy, LaunchesOrdered, first, launch_at, row, kernel_of, setup_of}
+use Rattle.device.specs.Prepared.{Came, Comes, IsPrepared}
 use Rattle.device.specs.declared.prepared.Launched.{Launched}
 use Rattle.device.specs.declared.running.RunEnd.{RunEnd}
 use Rattle.device.specs.declared.running.RunEnd.TheVariants.{Clean, Ordered, Faulted}
+use Rattle.device.proofs.OnBuffers.{prepared_on}
 use Rattle.device.proofs.Written.{changes_written}
 
 unrefused : (o : Option Refusal) (D : Type 0) (R : Refusal → Type 0) → o ≡ None → D → MatchOption o D R
@@ -105,3 +110,22 @@ fault_answers old new kernel range orders launched fault schedule comes is same 
     unrefused (first (row old (command.Launch kernel range orders))) (LaunchesBy orders old setup (reply.Fault fault schedule) new)
     (λ refusal. (reply.Fault fault schedule ≡ reply.Refused refusal) × (new ≡ old)) comes.admitted
     (fault_by orders old new setup fault schedule claims same)
+
+-- a prepared launch that ended so on the machine's buffers
+pub comes_on :
+    (m : Machine) (kernel : List ℕ) (range : Range) (orders : Bool) (launch : Runs) (buffers : Buffers) (launched : Launched) → IsPrepared m kernel range launch → buffers.bytes ≡ m.buffers → buffers.flags ≡ m.flags
+    → launched.names.items ≡ buffer_names (setup_of m (kernel_of m kernel) range) → EndsBy orders (launch_in (launches.setup_of launch) buffers) (flags_of (launches.setup_of launch) buffers) launched.end
+    → Comes m kernel range orders launched
+comes_on m kernel range orders launch buffers launched prepared bytes flags names ends =
+    let setup : Setup = setup_of m (kernel_of m kernel) range in
+    let rows : flags_of (launches.setup_of launch) buffers ≡ map (row_in m.flags) (buffer_names setup) =
+    ap (λ (s : Setup). flags_of s buffers) prepared.setup ∙ ap (λ (table : Table (List ℕ)). map (row_in table) (buffer_names setup)) flags in
+    record {
+      admitted = prepared.admitted;
+      came = record {
+        names = names;
+        ends =
+            subst (λ (l : Launch). EndsBy orders l (map (row_in m.flags) (buffer_names setup)) launched.end) (prepared_on m kernel range launch buffers prepared bytes flags)
+            (subst (λ (fs : List (List ℕ)). EndsBy orders (launch_in (launches.setup_of launch) buffers) fs launched.end) rows ends);
+      };
+    }

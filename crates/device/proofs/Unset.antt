@@ -1,5 +1,5 @@
 -- The lowest unset byte of those that are read.
-use Rattle.std.proofs.Common.{◌≡◌, ℕ, zero, suc, ◌+◌, ◌<◌, ◌≤◌, Bool, true, false, if◌then◌else◌, None, Some, arith}
+use Rattle.std.proofs.Common.{◌≡◌, ℕ, zero, suc, ◌+◌, ◌<◌, ◌≤◌, Bool, true, false, if◌then◌else◌, Some, arith}
 use Rattle.spaces.specs.Parts.{lowest_marked}
 
 -- it is one of them

@@ -1,4 +1,3 @@
-use Rattle.std.proofs.Common.{refl}
 use Rattle.item_step.specs.Launches.{setup_of}
 use Rattle.launches.specs.Groups.{launch_in}
 use Rattle.group_join.specs.Ends.{flags_of}
