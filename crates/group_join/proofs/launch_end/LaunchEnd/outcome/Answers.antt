@@ -15,8 +15,8 @@ returns-in_ok-copies-in-Clean c =
       h.1,
       h.2,
       h.3 ∙ sym (c.in_ok-copies-in-Clean.ensures
-          ∙ ap₂ (λ names changes. cells names changes c.as_slice-2.result.now) c.buffer_names-names.ensures c.as_slice.ensures.value
-          ∙ ap (λ cleared. cells _ c.in-Clean.changes.items cleared) c.as_slice-2.ensures.value),
+          ∙ ap₂ (λ names changes. cells names changes c.as_slice-in-Clean.result.now) c.buffer_names-names.ensures c.as_slice.ensures.value
+          ∙ ap (λ cleared. cells _ c.in-Clean.changes.items cleared) c.as_slice-in-Clean.ensures.value),
     )
 
 pub returns-in-Faulted : goal.returns-in-Faulted
