@@ -170,7 +170,7 @@ module _
   logged_after : IsLogged (plan_of l g) log after.events after.end
   logged_after = subst (λ es. IsLogged (plan_of l g) log es (logged_too u.state u.x)) u.made u.holds.logged
 
-  newest : Entry
+  abbrev newest : Entry
   newest = record { access = u.x; event = length (reverse u.before) }
 
   notes : Notes (newest ∷ numbered (reverse u.before) u.state.log) log.accesses

@@ -19,7 +19,7 @@ loop-place-preserved g c =
     let rows = map (λ (row : Bor (List ℕ)). row.now) c.args.rows.now in
     let i = c.loop-place.place in
     let x = c.get-entry.result in
-    let inside : i < length entries = omega (arith, c.loop-place-test.true, c.loop-place.auto.place-end, c.len.ensures) in
+    let inside : i < length entries = omega (arith, c.loop-place-test.true, c.loop-place.auto.place-end, c.len-place-end.ensures) in
     let at : slice_get entries i ≡ Some x = entry_at entries i x inside c.get-entry.ensures.value in
     let before = c.loop-place.invariant in
     record {
@@ -36,5 +36,5 @@ pub returns-clause-changed : goal.returns-clause-changed
 returns-clause-changed g c =
     let entries = (g.L.GroupAccesses.listed c.args.log.now) in
     let rows = map (λ (row : Bor (List ℕ)). row.now) c.args.rows.now in
-    subst (λ ys. AreChanged (all_with_changes rows c.args.cleared.now) (all_with_changes rows c.loop-place.cleared) (changes_of no_flag ys)) (take_all c.loop-place.place entries (omega (arith, c.loop-place-test.false, c.len.ensures)))
+    subst (λ ys. AreChanged (all_with_changes rows c.args.cleared.now) (all_with_changes rows c.loop-place.cleared) (changes_of no_flag ys)) (take_all c.loop-place.place entries (omega (arith, c.loop-place-test.false, c.len-place-end.ensures)))
     c.loop-place.invariant.changed

@@ -22,7 +22,7 @@ loop-place-preserved c =
     let row : c.bytes_in.result.now ≡ get_or rows place [] =
     c.bytes_in.ensures ∙ ap (bytes_in buffers) c.index-names-place.is ∙ sym (get_or-map (bytes_in buffers) names place c.index-names-place.result [] (omega arith)) in
     let flag : c.flags_in.result.now ≡ get_or flags place [] =
-    c.flags_in.ensures ∙ ap (flags_in buffers) c.index-names-place-2.is ∙ sym (get_or-map (flags_in buffers) names place c.index-names-place-2.result [] (omega arith)) in
+    c.flags_in.ensures ∙ ap (flags_in buffers) c.index-names-place-in-loop-place.is ∙ sym (get_or-map (flags_in buffers) names place c.index-names-place-in-loop-place.result [] (omega arith)) in
     let bytes : c.in_ok-bytes.bytes ≡ with_changes (get_or rows place []) (get_or c.args.changes.now place one) = c.in_ok-bytes.ensures ∙ ap₂ with_changes row c.index-changes-place.is in
     let cleared : c.in_ok-flags.flags ≡ with_changes (get_or flags place []) (get_or c.args.cleared.now place other) = c.in_ok-flags.ensures ∙ ap₂ with_changes flag c.index-cleared-place.is in
     ap (map (λ z. held_cells z.bytes z.flags)) c.in_ok-push.ensures.items

@@ -50,8 +50,8 @@ add_first-requires g c =
     (unset_follows l (rows_of c.args.self.now) c.args.group c.args.self.now log c.args.runs.now c.args.spaces.now entry.access entry.event c.args.own c.requires.ran.2 given c.requires.ran.3)
 
 -- a byte stays unset
-pub returns-in_ok-add_first-in-Some : goal.returns-in_ok-add_first-in-Some
-returns-in_ok-add_first-in-Some g c =
+pub returns-in_ok-add_first-in-Some-lowest_of : goal.returns-in_ok-add_first-in-Some-lowest_of
+returns-in_ok-add_first-in-Some-lowest_of g c =
     let l : Launch = g.D.Described.launch c.args.launch.now in
     let log : Log = c.requires.ran.0 in
     let listed = g.L.GroupAccesses.listed c.args.log.now in
@@ -65,11 +65,11 @@ returns-in_ok-add_first-in-Some g c =
     let at = told_buffer l (rows_of c.args.self.now) c.args.group c.args.self.now log c.args.runs.now c.args.spaces.now entry.access entry.event c.args.own c.requires.ran.2 given c.requires.ran.3 in
     IfOk-weaker c.unset_fault.result _ _
     (λ report says. unset_alone l (rows_of c.args.self.now) c.args.group c.args.self.now log c.args.runs.now c.args.spaces.now entry.access entry.event c.args.own c.requires.ran.2 given c.requires.ran.3
-    found at.0 c.in-Some-2.byte report c.add_first.new.runs.items finds late at.1 (sym (c.lowest_of.ensures at.0 at.1) ∙ c.in-Some-2.is)
-    (subst (λ z. Adds c.args.self.now.runs.items c.add_first.new.runs.items z (take entry.event (events_of z))) c.as_slice.ensures c.in_ok-add_first-in-Some-2.ensures) says) c.unset_fault.ensures
+    found at.0 c.in-Some-lowest_of.byte report c.add_first.new.runs.items finds late at.1 (sym (c.lowest_of.ensures at.0 at.1) ∙ c.in-Some-lowest_of.is)
+    (subst (λ z. Adds c.args.self.now.runs.items c.add_first.new.runs.items z (take entry.event (events_of z))) c.as_slice.ensures c.in_ok-add_first-in-Some-lowest_of.ensures) says) c.unset_fault.ensures
 
-pub cross-requires-2 : goal.cross-requires-2
-cross-requires-2 g c =
+pub cross-requires-in-Some-found : goal.cross-requires-in-Some-found
+cross-requires-in-Some-found g c =
     let l : Launch = g.D.Described.launch c.args.launch.now in
     let log : Log = c.requires.ran.0 in
     let entry = c.args.entry in
@@ -77,8 +77,8 @@ cross-requires-2 g c =
     unset_follows l (rows_of c.args.self.now) c.args.group c.args.self.now log c.args.runs.now c.args.spaces.now entry.access entry.event c.args.own c.requires.ran.2 given c.requires.ran.3
 
 -- all bytes are set by then: the access meets the lower groups
-pub returns-in-Some-2 : goal.returns-in-Some-2
-returns-in-Some-2 g c =
+pub returns-in-Some-found : goal.returns-in-Some-found
+returns-in-Some-found g c =
     let l : Launch = g.D.Described.launch c.args.launch.now in
     let log : Log = c.requires.ran.0 in
     let listed = g.L.GroupAccesses.listed c.args.log.now in
@@ -86,17 +86,17 @@ returns-in-Some-2 g c =
     let entry = c.args.entry in
     let found = c.first_conflict-found.result in
     let given : IsGiven l (rows_of c.args.self.now) c.args.group c.args.self.now c.args.runs.now = record { laws = c.laws.ensures; grouped = c.requires.grouped; there = c.requires.there; holds = c.requires.so_far; merged = c.requires.merged } in
-    let some : found ≡ Some c.in-Some-3.met = c.in-Some-3.is in
-    let finds : Finds l.uniform c.args.group c.args.self.now log (Some c.in-Some-3.met)
-    = finds_whole l c.args.group c.args.self.now last listed log (Some c.in-Some-3.met) c.uniform.ensures c.requires.ran.1
+    let some : found ≡ Some c.in-Some-found.met = c.in-Some-found.is in
+    let finds : Finds l.uniform c.args.group c.args.self.now log (Some c.in-Some-found.met)
+    = finds_whole l c.args.group c.args.self.now last listed log (Some c.in-Some-found.met) c.uniform.ensures c.requires.ran.1
     (subst (FindsIn c.uniform.result c.args.group c.args.self.now last listed) some c.first_conflict-found.ensures) in
-    let late : entry.event ≤ c.in-Some-3.met.entry.event
+    let late : entry.event ≤ c.in-Some-found.met.entry.event
     = subst (λ o. IfSome o (λ (met : FirstConflict). entry.event ≤ met.entry.event)) some
     (subst (λ o. IfNone o (IfSome found (λ (met : FirstConflict). entry.event ≤ met.entry.event))) c.in-None.is c.earlier.ensures.none) in
     let at = told_buffer l (rows_of c.args.self.now) c.args.group c.args.self.now log c.args.runs.now c.args.spaces.now entry.access entry.event c.args.own c.requires.ran.2 given c.requires.ran.3 in
-    both_ok _ _ _ c.cross-2.result c.cross-2.ensures.report c.cross-2.ensures.runs
+    both_ok _ _ _ c.cross-in-Some-found.result c.cross-in-Some-found.ensures.report c.cross-in-Some-found.ensures.runs
     (λ report told adds. unset_takes l (rows_of c.args.self.now) c.args.group c.args.self.now log c.args.runs.now c.args.spaces.now entry.access entry.event c.args.own c.requires.ran.2 given c.requires.ran.3
-    c.in-Some-3.met at.0 report c.cross-2.new.self.runs.items finds late at.1 (sym (c.lowest_of.ensures at.0 at.1) ∙ c.in-None-2.is) adds told)
+    c.in-Some-found.met at.0 report c.cross-in-Some-found.new.self.runs.items finds late at.1 (sym (c.lowest_of.ensures at.0 at.1) ∙ c.in-None-lowest_of.is) adds told)
 
 -- it always does
 pub unreachable-requires : goal.unreachable-requires
@@ -108,7 +108,7 @@ unreachable-requires g c =
     let entry = c.args.entry in
     let given : IsGiven l (rows_of c.args.self.now) c.args.group c.args.self.now c.args.runs.now = record { laws = c.laws.ensures; grouped = c.requires.grouped; there = c.requires.there; holds = c.requires.so_far; merged = c.requires.merged } in
     let finds : Finds l.uniform c.args.group c.args.self.now log None
-    = finds_whole l c.args.group c.args.self.now last listed log None c.uniform.ensures c.requires.ran.1 (subst (FindsIn c.uniform.result c.args.group c.args.self.now last listed) c.in-None-3.is c.first_conflict-found.ensures) in
+    = finds_whole l c.args.group c.args.self.now last listed log None c.uniform.ensures c.requires.ran.1 (subst (FindsIn c.uniform.result c.args.group c.args.self.now last listed) c.in-None-found.is c.first_conflict-found.ensures) in
     let at = told_buffer l (rows_of c.args.self.now) c.args.group c.args.self.now log c.args.runs.now c.args.spaces.now entry.access entry.event c.args.own c.requires.ran.2 given c.requires.ran.3 in
     unset_takes_some l (rows_of c.args.self.now) c.args.group c.args.self.now log c.args.runs.now c.args.spaces.now entry.access entry.event c.args.own c.requires.ran.2 given c.requires.ran.3
-    finds at.0 at.1 (sym (c.lowest_of.ensures at.0 at.1) ∙ c.in-None-2.is)
+    finds at.0 at.1 (sym (c.lowest_of.ensures at.0 at.1) ∙ c.in-None-lowest_of.is)

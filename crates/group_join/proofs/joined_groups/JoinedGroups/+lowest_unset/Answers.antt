@@ -3,7 +3,7 @@ use Rattle.spaces.specs.Parts.{Parted}
 use Rattle.spaces.proofs.Parts.{lowest_none, lowest_here, lowest_later}
 use Rattle.group_join.specs.JoinedGroups.{unset_of}
 use Rattle.group_join.specs.Unset.{unset_at}
-use Rattle.group_join.proofs.unset_bytes.JoinedGroups.+lowest_unset.Goals as goal
+use Rattle.group_join.proofs.joined_groups.JoinedGroups.+lowest_unset.Goals as goal
 
 pub returns-then-count-eq0 : goal.returns-then-count-eq0
 returns-then-count-eq0 t c =

@@ -5,7 +5,7 @@ use Rattle.group_join.specs.Changes.{buffer_at, cells_at}
 use Rattle.group_join.specs.JoinedGroups.{unset_of}
 use Rattle.group_join.specs.Unset.{is_nothing}
 use Rattle.group_join.proofs.UnsetBytes.{one_unset, one_not_unset}
-use Rattle.group_join.proofs.unset_bytes.JoinedGroups.stays_unset.Goals as goal
+use Rattle.group_join.proofs.joined_groups.JoinedGroups.stays_unset.Goals as goal
 
 pub returns-then-not-is_unset : goal.returns-then-not-is_unset
 returns-then-not-is_unset c =

@@ -1,4 +1,4 @@
-use Rattle.group_join.proofs.unset_bytes.JoinedGroups.+lowest_unset.Given as goal
+use Rattle.group_join.proofs.joined_groups.JoinedGroups.+lowest_unset.Given as goal
 
 abbrev pub decreases-lowest_unset : goal.decreases-lowest_unset
 decreases-lowest_unset l = l.count
