@@ -289,10 +289,10 @@ impl<'a> JoinedGroups<'a> {
         }
     }
 
-    /// Joins a group that has stopped at unset bytes of a buffer, of an access that its log and its events have as if it
-    /// were made. The result is the report of its first access with a conflict with a lower group's, if one before that
-    /// access has one. Else it is that of the lowest byte that no lower group set either; and where all are set, that
-    /// of the access, whose conflict with the group's own accesses is `own`.
+    /// Joins a group that has stopped at unset bytes of a buffer, of an access that its log and its events have as if
+    /// it were made. The result is the report of its first access with a conflict with a lower group's, if one before
+    /// that access has one. Else it is that of the lowest byte that no lower group set either; and where all are set,
+    /// that of the access, whose conflict with the group's own accesses is `own`.
     fn join_unset<D: Described, L: GroupAccesses>(
         &mut self,
         launch: &D,
