@@ -7,7 +7,6 @@ use Rattle.clmodel.specs.Law.{CleanWith, Reaches}
 use Rattle.clmodel.specs.Next.{launch_on}
 use Rattle.clmodel.specs.Outcome.{events_of}
 use Rattle.clmodel.specs.Setup.{Setup, buffer_names}
-use Rattle.clmodel.specs.Tree.{Program}
 use Rattle.clmodel.specs.declared.setup.Argument.{Argument}
 use Rattle.device.specs.Kept.{IsCodeOf, RenamedCode}
 use Rattle.device.specs.Machine.{Machine, IsReported, bytes_of, holding, is_unset, launch_at}
