@@ -19,7 +19,7 @@ use Rattle.clmodel.specs.declared.setup.Argument.TheVariants as argument
 use Rattle.clmodel.specs.declared.setup.Range.{Range}
 use Rattle.same_launches.specs.Alike.{AlikeElements}
 use Rattle.spaces.specs.Buffers.{row_in, with_bytes, repeated}
-use Rattle.spaces.specs.FlagRows.{bytes_beneath, flags_over, with_all_flags, with_copied, with_set, with_unset}
+use Rattle.spaces.specs.FlagRows.{bytes_beneath, with_all_flags, with_copied, with_set, with_unset}
 use Rattle.spaces.specs.Tables.{Table, is, find, with_values}
 use Rattle.host_commands.specs.Builds.{Builds}
 use Rattle.host_commands.specs.Fills.{is_pattern_size}
@@ -30,7 +30,7 @@ use Rattle.host_commands.specs.declared.command.Refusal.{Refusal}
 use Rattle.host_commands.specs.declared.command.Refusal.TheVariants.{NameInUse, NoSuchName, BadSize, OutOfRange, TooManyBuffers, Overlap, NoSuchKernel, BadArgument, InUse, UnsetBytes}
 use Rattle.host_commands.specs.declared.command.Reply.{Reply}
 use Rattle.host_commands.specs.declared.command.Reply.TheVariants as reply
-use Rattle.device.specs.Machine.{Machine, Answers, Built, Does, IsOrderedReport, IsReported, Launches, LaunchesOrdered, OrderedWith, bytes_of, do_overlap, fits, first, holding, is_unset, has_kernel, has_kernels, is_argument, is_there, is_used, kernel_of, launch_at, lowest_unset, program_of, row, setup_of, unset_run}
+use Rattle.device.specs.Machine.{Machine, Answers, Built, Does, IsOrderedReport, IsReported, Launches, LaunchesOrdered, OrderedWith, bytes_of, do_overlap, fits, first, holding, has_kernel, has_kernels, is_argument, is_there, is_used, kernel_of, launch_at, lowest_unset, program_of, row, setup_of, unset_run}
 use Rattle.same_launches.specs.Verdicts.{AlikeBytes}
 use Rattle.widening.specs.Widened.{ArgumentsDiffer, DifferBy, is_free_at, with_arguments}
 use Rattle.wide_launches.specs.Replies.{IsWideReply, SameReply}
