@@ -158,7 +158,7 @@ SameUnset v w unset = (word : List ℕ) → IsUnset v word unset → IsUnset w w
 -- what a text of one version says, it says in another that has the words of its launch, and of its buffer
 keeps_text : (v w : Version) (text : List ℕ) (c : Command) → ((kernel : List ℕ) (range : Range) (orders : Bool) → c ≡ command.Launch kernel range orders → SameWords v w range.uniform orders)
     → ((name : List ℕ) (size : ℕ) (unset : Bool) → c ≡ command.Buffer name size unset → SameUnset v w unset) → IsText v text c → IsText w text c
-keeps_text v w text (command.Buffer name size unset) same one h = (h.0, h.1, (h.2, one name size unset refl h.2 h.3, h.4))
+keeps_text v w text (command.Buffer name size unset) same one h = (h.0, h.1, (h.2.0, one name size unset refl h.2.0 h.2.1, h.2.2))
 keeps_text v w text (command.Write buffer offset bytes) same one h = h
 keeps_text v w text (command.Read buffer offset count) same one h = h
 keeps_text v w text (command.Fill buffer offset count pattern) same one h = h
