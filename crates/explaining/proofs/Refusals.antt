@@ -26,7 +26,7 @@ pub told_refusal :
     → IsPlaced script ticket place → TellsRefused name script.text.now ticket place refusal (reason_in found) told
     → ((command : Command) → slice_get commands ticket ≡ Some command → IfSome found (λ f. Holds limits buffers flags command f.reason)) → IsRefusalText f told text
     → TellsRefusal limits buffers flags f name script commands ticket refusal text
-told_refusal limits buffers f name script commands ticket place refusal found told text stands tells holds written = record {
+told_refusal limits buffers flags f name script commands ticket place refusal found told text stands tells holds written = record {
   place = place;
   stands = stands;
   told = told;
