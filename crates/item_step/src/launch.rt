@@ -22,9 +22,10 @@ use clmodel::tree::Tree;
 use item_value::item_context::ItemContext;
 use item_value::parameters::buffer_places;
 use item_value::position::{ItemPosition, group_counts};
+use preparing::prepare;
 use regcode::Code;
 use std::alloc::{AllocError, Global};
-use steps::{PreparedCode, Step, prepare};
+use steps::{PreparedCode, Step};
 
 /// A kernel that is ready to run: its setup with lent code that acts as its text. The items may be started in any
 /// order.

@@ -75,7 +75,7 @@ pub(crate) fn assign(
 }
 
 /// An operand in another type.
-pub(crate) fn cast(
+pub fn cast(
     registers: RegisterFile<'_>,
     from: u32,
     kind: IntType,
@@ -89,7 +89,7 @@ pub(crate) fn cast(
 }
 
 /// An operand in the common type of its own and another type.
-pub(crate) fn to_common_type(
+pub fn to_common_type(
     registers: RegisterFile<'_>,
     from: u32,
     other: IntType,
@@ -103,7 +103,7 @@ pub(crate) fn to_common_type(
 }
 
 /// An operator on one integer.
-pub(crate) fn apply_unary(
+pub fn apply_unary(
     registers: RegisterFile<'_>,
     from: u32,
     operator: UnaryOperator,
@@ -147,7 +147,7 @@ pub fn tested(registers: RegisterFile<'_>, number: u32) -> Result<bool, Terminat
 }
 
 /// A function of one integer.
-pub(crate) fn call_builtin(
+pub fn call_builtin(
     registers: RegisterFile<'_>,
     function: Builtin,
     first: u32,
@@ -160,7 +160,7 @@ pub(crate) fn call_builtin(
 }
 
 /// A function of two integers.
-pub(crate) fn call_builtin_of_two(
+pub fn call_builtin_of_two(
     registers: RegisterFile<'_>,
     function: Builtin,
     first: u32,

@@ -1,0 +1,2 @@
+pub use Rattle.item_state.proofs.Going
+pub use Rattle.item_state.proofs.StateLaws
