@@ -9,7 +9,7 @@ use Rattle.clmodel.specs.Outcome.{events_of}
 use Rattle.clmodel.specs.declared.fault.Fault.{Fault}
 use Rattle.clmodel.specs.declared.schedule.EventRun.{EventRun}
 use Rattle.clmodel.specs.declared.setup.Range.{Range}
-use Rattle.device.specs.Machine.{Machine, setup_of}
+use Rattle.device.specs.Machine.{Machine}
 use Rattle.device.specs.Prepared.{IsPrepared}
 use Rattle.host_commands.specs.declared.command.Command.{Command}
 use Rattle.byte_io.specs.Sink.{Sink}
