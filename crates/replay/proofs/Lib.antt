@@ -8,5 +8,7 @@ pub mod Played
 pub mod Reaching
 pub mod Showing
 pub mod Telling
+pub mod Standing
+pub mod Keeping
 pub mod Spots
 mod Shown

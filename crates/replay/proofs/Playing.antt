@@ -27,7 +27,7 @@ use Rattle.launches.proofs.Lists.{get_set}
 use Rattle.launches.proofs.Memory.{space_sized, local_at, local_past}
 use Rattle.item_step.specs.Running.{Running}
 use Rattle.launches.specs.Items.{Runs, acts_of}
-use Rattle.replay.specs.Items.{IsAlike, IsAnswered}
+use Rattle.slot_pages.specs.Items.{IsAlike, IsAnswered, IsChanged}
 use Rattle.replay.specs.States.{LocalsHold, attempt, IsPerformed, IsGroupIn, Tells, IsPlayed}
 use Rattle.replay.specs.declared.group.Group.{Group}
 use Rattle.replay.specs.declared.group.Performed.{Performed}
@@ -106,7 +106,7 @@ is_done l g m new o element op d e h = (
 -- ---- an event of an item
 
 -- items of which one was asked, and acts as before
-pub asked :
+asked :
     (l : Launch) (r : ℕ → Running) (items : List Slot) (bs : List (List (Option ℕ))) (groups : List Group) (log : List Access) (s : State) (k : ℕ) (i j : Slot)
     → slice_get items k ≡ Some i → IsAlike l r k i j → Tells l r items bs groups log s
     → Tells l r (set items k j) bs groups log s
@@ -129,6 +129,11 @@ asked l r items bs groups log s k i j there same t =
         ap (λ w. acts_of l q w answers) (sym e.1) ∙ ap (λ n. acts_of l n j answers) e.0 ∙ same.acts answers ∙ t.acting k i there answers
         ∙ ap (λ n. l.next n (s.answers n ++ answers)) (sym e.0)
     acting q z (inr e) answers = t.acting q z e.1 answers
+
+pub asked_in :
+    (l : Launch) (r : ℕ → Running) (items next : List Slot) (bs : List (List (Option ℕ))) (groups : List Group) (log : List Access) (s : State) (k : ℕ)
+    → IsChanged (IsAlike l r k) k items next → Tells l r items bs groups log s → Tells l r next bs groups log s
+asked_in l r items next bs groups log s k c t = subst (λ z. Tells l r z bs groups log s) (sym c.put) (asked l r items bs groups log s k c.from c.to c.there c.how t)
 
 -- the memory of another group's local objects after an operation
 apart : (m : Memory) (g q n : ℕ) (o : Object) (c : Cells) → (q ≡ g → ⊥) → with_cells m (region_of g o) c (region.Local q n) ≡ m (region.Local q n)

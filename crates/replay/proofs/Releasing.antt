@@ -21,7 +21,8 @@ use Rattle.clmodel.proofs.Steps.{if_true, if_false, lowest_finds, lowest_is_none
 use Rattle.launches.proofs.Lists.{get_set}
 use Rattle.item_step.specs.Running.{Running}
 use Rattle.launches.specs.Items.{Runs, acts_of}
-use Rattle.replay.specs.Items.{AreAlike, AreAt, AreAnswered, IsAnswered}
+use Rattle.replay.specs.Items.{AreAlike, AreAt, AreAnswered}
+use Rattle.slot_pages.specs.Items.{IsAnswered}
 use Rattle.launches.specs.Groups.{IsRunnable}
 use Rattle.replay.specs.States.{ActsNext, IsGroupIn, IsPaced, Tells, Gathers, passed}
 use Rattle.replay.specs.declared.group.Group.{Group}

@@ -83,7 +83,7 @@ pub record IsAt {D : Type 0} (launch_of : D → Launch) (started_of : D → ℕ 
   pub plays : launch_of player.launch.now ≡ launch
   pub begins : started_of player.launch.now ≡ started
   pub runnable : IsRunnable launch
-  pub tells : Tells launch started player.items.items player.buffers.items player.groups.items player.log.items state
+  pub tells : Tells launch started player.items player.buffers.items player.groups.items player.log.items state
 
 -- an item's next action in a state, or None where there is no such item (3.2)
 abbrev pub ActsNext : Launch → State → ℕ → Option Action → Type 0
