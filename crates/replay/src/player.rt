@@ -23,14 +23,9 @@ use clmodel::access::{Access, Object, Operation};
 use clmodel::action::{Action, Fences, Stop};
 use clmodel::schedule::Event;
 use clnum::Value;
-<<<<<<< ours
-use launches::{Runnable, Slot, waiting_items};
-use spaces::{BufferMem, Space, first_byte};
-=======
 use launches::Runnable;
 use slot_pages::Slots;
-use spaces::{Plain, Space, first_byte};
->>>>>>> theirs
+use spaces::{BufferMem, Space, first_byte};
 use std::alloc::{AllocError, Global};
 
 /// A launch as it is played: its items, one memory that they share, and the accesses so far, the oldest first. Items
@@ -39,13 +34,8 @@ use std::alloc::{AllocError, Global};
 pub struct Player<'a, D> {
     alloc: Global,
     launch: &'a D,
-<<<<<<< ours
-    items: Vec<Slot<'a>>,
-    buffers: Vec<BufferMem>,
-=======
     items: Slots<'a>,
-    buffers: Vec<Plain>,
->>>>>>> theirs
+    buffers: Vec<BufferMem>,
     groups: Vec<Group>,
     log: Vec<Access>,
 }

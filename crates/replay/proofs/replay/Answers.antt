@@ -2,12 +2,7 @@ use Rattle.std.proofs.Common.{◌∙◌, ℕ, map, ap, ap₂, sym, subst}
 use Rattle.std.specs.Bool.{Decides}
 use Rattle.std.proofs.lemmas.Result.{IfOk-weaker}
 use Rattle.clmodel.specs.Launch.{Launch}
-<<<<<<< ours
-use Rattle.clmodel.specs.Law.{Reaches}
-=======
 use Rattle.clmodel.specs.Law.{Reaches, Shows}
-use Rattle.clmodel.specs.Next.{launch_of}
->>>>>>> theirs
 use Rattle.clmodel.specs.Outcome.{events_of}
 use Rattle.clmodel.specs.Run.{State, start}
 use Rattle.clmodel.specs.Setup.{buffer_names}
