@@ -1,8 +1,7 @@
 -- Which bytes are unset, as code finds it.
-use Rattle.std.proofs.Common.{◌≡◌, ℕ, ◌+◌, ◌*◌, ◌<◌, ◌≤◌, ◌==◌, Bool, true, false, ◌&&◌, not, Option, None, Some, List, [], length, map, refl, sym, ap, ◌∙◌, arith}
-use Rattle.std.specs.Prelude.{slice_get}
+use Rattle.std.proofs.Common.{◌≡◌, ℕ, ◌+◌, ◌*◌, ◌≤◌, ◌==◌, true, false, not, Option, None, Some, List, length, map, refl, sym, ap, ◌∙◌, arith}
 use Rattle.std.proofs.lemmas.Option.{slice_get_past}
-use Rattle.clmodel.specs.Cells.{Cells, cells_of, joined, number, is_unset, is_flagged}
+use Rattle.clmodel.specs.Cells.{cells_of, joined, number, is_unset, is_flagged}
 use Rattle.clmodel.proofs.CellLaws.{cells_some}
 use Rattle.clmodel.proofs.Steps.{none_some, some_inj}
 use Rattle.spaces.specs.Changes.{Changed, with_changes}

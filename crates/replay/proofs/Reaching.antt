@@ -1,5 +1,5 @@
 -- A schedule that was played, and the fault at its end.
-use Rattle.std.proofs.Common.{◌≡◌, Bool, true, false, None, Some, List, [], ◌∷◌, map, refl, sym, ap, ◌∙◌, subst}
+use Rattle.std.proofs.Common.{◌≡◌, Bool, true, false, None, Some, sym, ◌∙◌, subst}
 use Rattle.std.specs.Bool.{Decides}
 use Rattle.std.proofs.lemmas.Bool.{false≢true}
 use Rattle.clmodel.specs.Launch.{Launch}
@@ -15,10 +15,6 @@ never_reaches l events f never (s, goes, shown) = none_some s (sym never ∙ goe
 pub reaches :
     (l : Launch) (events : Events) (f : Fault) (end : State) (answer : Bool) → after l (start l) events ≡ Some end → Decides answer (Shows l end f) → Decides answer (Reaches l events f)
 reaches l events f end answer goes there = (λ e. (end, goes, there.0 e), λ (s, other, shown). there.1 (subst (λ z. Shows l z f) (some_inj s end (sym other ∙ goes)) shown))
-
-pub map_map : {A B C : Type 0} (f : B → C) (h : A → B) (xs : List A) → map (λ x. f (h x)) xs ≡ map f (map h xs)
-map_map f h [] = refl
-map_map f h (x ∷ xs) = ap (λ ys. f (h x) ∷ ys) (map_map f h xs)
 
 pub unplayed : (l : Launch) (s : State) (events : Events) (new : State → Type 0) (answer : Bool) → ArePlayed l s events new answer → answer ≡ false → after l s events ≡ None
 unplayed l s events new true played e = absurd (false≢true (sym e))

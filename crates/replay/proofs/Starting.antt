@@ -1,15 +1,11 @@
 -- What a program keeps of the state in which a launch starts.
-use Rattle.std.proofs.Common.{◌≡◌, ℕ, zero, suc, ◌*◌, inr, Option, None, Some, List, [], ◌∷◌, length, map, replicate, refl, sym, ap, ◌∙◌, subst, arith}
-use Rattle.std.specs.Prelude.{slice_get, slice_index_or, All}
-use Rattle.std.proofs.Math.Path.{fun_ext}
+use Rattle.std.proofs.Common.{◌≡◌, ℕ, ◌*◌, inr, Some, List, [], length, replicate, refl, ap, ◌∙◌, subst, arith}
+use Rattle.std.specs.Prelude.{slice_get, All}
 use Rattle.std.proofs.lemmas.List.{map-id, length-replicate}
 use Rattle.std.proofs.lemmas.Option.{slice_get_within, get_or_from_slice_get}
-use Rattle.clmodel.specs.Cells.{cells_of}
 use Rattle.clmodel.specs.Launch.{Launch}
 use Rattle.clmodel.specs.Run.{start, initial}
 use Rattle.clmodel.specs.declared.access.Region.TheVariants as region
-use Rattle.clmodel.proofs.Steps.{none_some, some_inj}
-use Rattle.clmodel.proofs.CellLaws.{cells_some}
 use Rattle.launches.specs.Objects.{SpacesHold}
 use Rattle.launches.proofs.Filled as launches
 use Rattle.launches.proofs.Items.{waiting_at}

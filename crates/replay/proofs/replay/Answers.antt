@@ -5,7 +5,6 @@ use Rattle.clmodel.specs.Launch.{Launch}
 use Rattle.clmodel.specs.Law.{Reaches, Shows}
 use Rattle.clmodel.specs.Outcome.{events_of}
 use Rattle.clmodel.specs.Run.{State, start}
-use Rattle.clmodel.specs.Setup.{buffer_names}
 use Rattle.item_step.specs.Launches.{setup_of, started}
 use Rattle.item_step.specs.Running.{Running}
 use Rattle.launches.specs.Groups.{IsRunnable, filled, launch_in}

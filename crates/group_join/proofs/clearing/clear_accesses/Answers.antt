@@ -1,4 +1,4 @@
-use Rattle.std.proofs.Common.{◌≡◌, ◌<◌, ℕ, List, Some, length, take, map, ◌∙◌, refl, subst, arith}
+use Rattle.std.proofs.Common.{◌≡◌, ◌<◌, ℕ, List, Some, length, map, ◌∙◌, refl, subst, arith}
 use Rattle.std.specs.Prelude.{slice_get}
 use denote.Bor.{Bor}
 use Rattle.std.proofs.lemmas.List.{take_all}

@@ -1,17 +1,12 @@
 use Rattle.std.proofs.Common.{◌≡◌, ◌*◌, ◌≤◌, sym, ap, ap₂, ◌∙◌, subst, add-one}
-use Rattle.std.specs.Prelude.{Vec}
-use Rattle.std.specs.declared.alloc.Global.{Global}
 use Rattle.std.proofs.Math.Nat.{mul-le-mul_right}
 use Rattle.clmodel.specs.Launch as model
 use Rattle.launches.specs.Groups.{launch_in}
 use Rattle.item_step.specs.Launches.{setup_of}
-use Rattle.spaces.specs.Buffers.{bytes_in}
 use Rattle.group_join.specs.Ends.{flags_of, EndsAs}
 use Rattle.group_join.specs.JoinedGroups.{rows_of, HoldsGroups, CameOfNext, HandsBack}
 use Rattle.access_list.specs.Log.{fresh_log}
 use Rattle.group_join.specs.declared.heap_log.HeapLog.{HeapLog}
-use Rattle.spaces.specs.Changes.{Changed}
-use Rattle.group_join.specs.declared.launch_end.LaunchEnd.TheVariants.{Clean}
 use Rattle.group_join.specs.declared.joined_groups.JoinEnd.{JoinEnd}
 use Rattle.group_join.specs.declared.joined_groups.JoinEnd.TheVariants.{Continues, Ends}
 use Rattle.group_join.proofs.Ending.{held_rows, grouped_of, next_ends, next_held, concludes_clean}

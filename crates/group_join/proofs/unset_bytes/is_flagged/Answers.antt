@@ -1,4 +1,4 @@
-use Rattle.std.proofs.Common.{◌≡◌, ◌≤◌, length, sym, ◌∙◌, arith}
+use Rattle.std.proofs.Common.{sym, arith}
 use Rattle.group_join.proofs.UnsetBytes.{flag_read, flag_past}
 use Rattle.group_join.proofs.unset_bytes.is_flagged.Goals as goal
 

@@ -1,8 +1,6 @@
 use Rattle.std.proofs.Common.{◌&&◌, map, sym, ap, ap₂, ◌∙◌}
-use Rattle.clmodel.specs.Cells.{is_flagged}
 use Rattle.spaces.specs.Parts.{Parted}
-use Rattle.group_join.specs.Changes.{buffer_at, cells_at}
-use Rattle.group_join.specs.JoinedGroups.{unset_of}
+use Rattle.group_join.specs.Changes.{cells_at}
 use Rattle.group_join.specs.Unset.{is_nothing}
 use Rattle.group_join.proofs.UnsetBytes.{one_unset, one_not_unset}
 use Rattle.group_join.proofs.joined_groups.JoinedGroups.stays_unset.Goals as goal
