@@ -87,6 +87,7 @@ no_launch =
       items = 0;
       group_size = 0;
       buffers = [];
+      unset = λ number byte. false;
       local_sizes = [];
       next = λ item answers. action.End;
       buffer_names = [];
