@@ -195,12 +195,12 @@ release_kept t l s g P answer h = go answer h (step l s (Release g)) refl (leave
 -- an access that is kept was made
 made : (test : Access → Bool) (log : List Access) (x : Access) → Logged (filter test log) x → Logged log x
 made test [] x h = h
-made test (y ∷ log) x h = go (test y) h
+made test (y ∷ log) x h = go (test y) (made test log x) h
   where
-    go : (b : Bool) → Logged (cond b (y ∷ filter test log) (filter test log)) x → (y ≡ x) ⊎ Logged log x
-    go true (inl e) = inl e
-    go true (inr there) = inr (made test log x there)
-    go false there = inr (made test log x there)
+    go : (b : Bool) → (Logged (filter test log) x → Logged log x) → Logged (cond b (y ∷ filter test log) (filter test log)) x → (y ≡ x) ⊎ Logged log x
+    go true earlier (inl e) = inl e
+    go true earlier (inr there) = inr (earlier there)
+    go false earlier there = inr (earlier there)
 
 -- one that passes the test is kept
 stays_logged : (test : Access → Bool) (log : List Access) (x : Access) → test x ≡ true → Logged log x → Logged (filter test log) x
@@ -210,11 +210,11 @@ stays_logged test (y ∷ log) x passes (inl e) = go (test y) (ap test e ∙ pass
     go : (b : Bool) → b ≡ true → Logged (cond b (y ∷ filter test log) (filter test log)) x
     go true h = inl e
     go false h = absurd (false≢true h)
-stays_logged test (y ∷ log) x passes (inr there) = go (test y)
+stays_logged test (y ∷ log) x passes (inr there) = go (test y) (stays_logged test log x passes there)
   where
-    go : (b : Bool) → Logged (cond b (y ∷ filter test log) (filter test log)) x
-    go true = inr (stays_logged test log x passes there)
-    go false = stays_logged test log x passes there
+    go : (b : Bool) → Logged (filter test log) x → Logged (cond b (y ∷ filter test log) (filter test log)) x
+    go true earlier = inr earlier
+    go false earlier = earlier
 
 of_second : (b : Bool) → (b || true) ≡ true
 of_second true = refl
@@ -225,11 +225,21 @@ pub shows_kept : (l : Launch) (s : State) (f : Fault) (answer : Bool) → Decide
 shows_kept l s (fault.Conflict clash item kind other other_kind location byte) answer h = (λ e. of_kept (h.0 e), λ shown. h.1 (to_kept shown))
   where
     of_kept : Shows l (kept (told.Pair item other) s) (fault.Conflict clash item kind other other_kind location byte) → Shows l s (fault.Conflict clash item kind other other_kind location byte)
-    of_kept (x, y, first, second, rest) =
-        (x, y, made (λ z. is_told (told.Pair item other) z.item) s.log x first, made (λ z. is_told (told.Pair item other) z.item) s.log y second, rest)
+    of_kept (x, y, first, second, of_item, of_kind, of_other, of_other_kind, located, conflicts) = (
+      x,
+      y,
+      made (λ z. is_told (told.Pair item other) z.item) s.log x first,
+      made (λ z. is_told (told.Pair item other) z.item) s.log y second,
+      of_item,
+      of_kind,
+      of_other,
+      of_other_kind,
+      located,
+      conflicts,
+    )
 
     to_kept : Shows l s (fault.Conflict clash item kind other other_kind location byte) → Shows l (kept (told.Pair item other) s) (fault.Conflict clash item kind other other_kind location byte)
-    to_kept (x, y, first, second, of_item, of_kind, of_other, rest) = (
+    to_kept (x, y, first, second, of_item, of_kind, of_other, of_other_kind, located, conflicts) = (
       x,
       y,
       stays_logged (λ z. is_told (told.Pair item other) z.item) s.log x (ap (λ b. b || (x.item == other)) (eq-eqb x.item item of_item)) first,
@@ -237,7 +247,9 @@ shows_kept l s (fault.Conflict clash item kind other other_kind location byte) a
       of_item,
       of_kind,
       of_other,
-      rest,
+      of_other_kind,
+      located,
+      conflicts,
     )
 shows_kept l s (fault.Divergence item stop other other_stop) answer h = h
 shows_kept l s (fault.Bounds item kind location element) answer h = h
