@@ -23,7 +23,7 @@ use Rattle.item_step.specs.Running.{Running}
 use Rattle.launches.specs.declared.slot.Slot.{Slot}
 use Rattle.replay.specs.States.{IsGroupIn, IsPlayed, Tells}
 use Rattle.replay.specs.Told.{is_told, kept, told_by, with_log, without_newest}
-use Rattle.replay.specs.declared.group.Group.{Group}
+use Rattle.group_memory.specs.declared.group.Group.{Group}
 use Rattle.replay.specs.declared.told.Told.{Told}
 use Rattle.replay.specs.declared.told.Told.TheVariants as told
 

@@ -1,6 +1,6 @@
 -- Items that are asked or answered one after another.
 use Rattle.std.proofs.Common.{◌≡◌, ℕ, ◌+◌, ◌<◌, ◌≤◌, ◌⊎◌, Bool, true, false, Some, List, [], set, length, refl, sym, ap, subst, ◌∙◌, inl, inr, arith}
-use Rattle.std.specs.Prelude.{slice_get, Result, Ok, Err, OnErr}
+use Rattle.std.specs.Prelude.{slice_get}
 use Rattle.std.proofs.lemmas.List.{length-set}
 use Rattle.clmodel.specs.Launch.{Launch}
 use Rattle.clmodel.specs.Run.{stop_of, both_stop}
@@ -14,11 +14,6 @@ use Rattle.replay.proofs.Spots.{below_next}
 use Rattle.replay.specs.Items.{is_at, AreAlike, AreAsked, AreAt, AreAnswered, IsAskedAt}
 use Rattle.slot_pages.specs.Items.{IsAlike, IsAnswered, IsChanged}
 use Rattle.launches.specs.declared.slot.Slot.{Slot}
-
--- what holds anyhow holds on an error
-pub on_err : {T E P : Type 0} (r : Result T E) → P → OnErr r P
-on_err (Ok v) p = tt
-on_err (Err e) p = p
 
 -- ---- items that are asked
 

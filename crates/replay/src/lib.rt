@@ -34,7 +34,6 @@ mod conflicts;
 mod dividends;
 mod events;
 mod faults;
-mod group;
 mod members;
 mod nexts;
 mod places;

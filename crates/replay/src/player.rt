@@ -16,13 +16,13 @@ ghost use Rattle.replay.specs.States.{ActsNext, Gathers, IsAt, IsPlayed};
 ghost use Rattle.replay.specs.Told.{with_log, without_newest};
 
 use crate::dividends::dividend_at;
-use crate::group::{Group, new_groups};
 use crate::members::{answer_all, are_at};
 use crate::slot::{Stand, stand_of};
 use clmodel::access::{Access, Object, Operation};
 use clmodel::action::{Action, Fences, Stop};
 use clmodel::schedule::Event;
 use clnum::Value;
+use group_memory::{Group, new_groups};
 use launches::Runnable;
 use slot_pages::Slots;
 use spaces::{BufferMem, Space, first_byte};

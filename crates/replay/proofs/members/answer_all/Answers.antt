@@ -1,7 +1,7 @@
 use Rattle.std.proofs.Common.{◌≡◌, arith, subst}
 use Rattle.clmodel.specs.declared.action.Answer.TheVariants.{Done}
 use Rattle.replay.specs.Items.{AreAnswered}
-use Rattle.replay.proofs.Playing.{no_launch}
+use Rattle.slot_pages.proofs.Changes.{no_launch}
 use Rattle.replay.proofs.Walks.{answered_none, answered_next, asked_still}
 use Rattle.replay.proofs.members.answer_all.Goals as goal
 

@@ -4,9 +4,10 @@ use Rattle.clmodel.specs.Launch.{group_of}
 use Rattle.clmodel.specs.declared.access.Access.{Access}
 use Rattle.clmodel.specs.declared.schedule.Event.TheVariants.{Item}
 use Rattle.launches.specs.Objects.{ObjectsHold}
-use Rattle.replay.specs.States.{IsPerformed, IsPlayed, Tells}
+use Rattle.group_memory.specs.Groups.{IsPerformed}
+use Rattle.replay.specs.States.{IsPlayed, Tells}
 use Rattle.replay.proofs.Playing.{refused_in, done_in, group_kept, is_none, group_there}
-use Rattle.replay.proofs.Walks.{on_err}
+use Rattle.group_memory.proofs.Operations.{on_err}
 use Rattle.replay.proofs.player.Player.access.Goals as goal
 
 pub returns-in_default-clause-played : goal.returns-in_default-clause-played

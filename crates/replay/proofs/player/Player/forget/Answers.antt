@@ -1,6 +1,6 @@
 use Rattle.std.proofs.Common.{◌≡◌, length, arith}
 use Rattle.std.specs.Prelude.{vec_len}
-use Rattle.replay.proofs.Playing.{no_sizes}
+use Rattle.group_memory.proofs.Locals.{no_sizes}
 use Rattle.replay.proofs.Keeping.{emptied, forgets, pops}
 use Rattle.replay.proofs.player.Player.forget.Goals as goal
 

@@ -1,8 +1,8 @@
 use Rattle.std.proofs.Common.{◌≡◌, length, refl, ◌∙◌, subst, Some}
 use Rattle.std.specs.Prelude.{slice_get}
 use Rattle.std.proofs.lemmas.Option.{slice_get_read}
-use Rattle.replay.proofs.Bytes.{buffer_at, buffer_unset, local_unset}
-use Rattle.replay.proofs.group.Group.unset_byte.Goals as goal
+use Rattle.group_memory.proofs.Bytes.{buffer_at, buffer_unset, local_unset}
+use Rattle.group_memory.proofs.group.Group.unset_byte.Goals as goal
 
 pub returns-in-Buffer : goal.returns-in-Buffer
 returns-in-Buffer c = λ l g m buffers locals inside.

@@ -16,7 +16,7 @@ use Rattle.clmodel.proofs.Steps.{none_some}
 use Rattle.clmodel.proofs.CellLaws.{found_unset}
 use Rattle.launches.specs.Objects.{SpacesHold}
 use Rattle.launches.proofs.Memory.{size_some}
-use Rattle.replay.specs.States.{LocalsHold}
+use Rattle.group_memory.specs.Groups.{LocalsHold}
 use Rattle.spaces.proofs.Rows.{unset_here}
 
 -- bytes that make a number are set

@@ -1,8 +1,8 @@
 use Rattle.std.proofs.Common.{rules, to_z, of_z, w64, ◌≡◌}
 use Rattle.clmodel.specs.Launch.{region_of}
 use Rattle.launches.specs.Objects.{ObjectsHold}
-use Rattle.replay.proofs.Playing.{no_launch, never_out, never_read_only, performed_ok, performed_unset, wanting_kept}
-use Rattle.replay.proofs.group.perform.Goals as goal
+use Rattle.group_memory.proofs.Operations.{no_launch, never_out, never_read_only, performed_ok, performed_unset, wanting_kept}
+use Rattle.group_memory.proofs.group.perform.Goals as goal
 
 pub unreachable-requires : goal.unreachable-requires
 unreachable-requires c =

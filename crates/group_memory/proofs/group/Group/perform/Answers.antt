@@ -1,9 +1,9 @@
 use Rattle.std.proofs.Common.{rules, to_z, of_z, w64, ◌≡◌, inl, sym, subst}
 use Rattle.std.proofs.lemmas.Result.{IfOk-weaker, on_err_weaker}
 use Rattle.launches.specs.Objects.{ObjectsHold}
-use Rattle.replay.specs.States.{IsPerformed, LocalsHold}
-use Rattle.replay.proofs.Walks.{on_err}
-use Rattle.replay.proofs.group.Group.perform.Goals as goal
+use Rattle.group_memory.specs.Groups.{IsPerformed, LocalsHold}
+use Rattle.group_memory.proofs.Operations.{on_err}
+use Rattle.group_memory.proofs.group.Group.perform.Goals as goal
 
 pub returns-clause-performed : goal.returns-clause-performed
 returns-clause-performed c =

@@ -1,6 +1,6 @@
 use Rattle.std.proofs.Common.{sym, ◌∙◌, eqb-true, vec_len, arith}
-use Rattle.replay.proofs.Playing.{locals_made, no_sizes}
-use Rattle.replay.proofs.group.Group.make_locals.Goals as goal
+use Rattle.group_memory.proofs.Locals.{locals_made, no_sizes}
+use Rattle.group_memory.proofs.group.Group.make_locals.Goals as goal
 
 pub returns-in_ok-self-clause-made : goal.returns-in_ok-self-clause-made
 returns-in_ok-self-clause-made c = λ l g m same held.

@@ -1,4 +1,4 @@
-//! What a player keeps of a work-group.
+//! What is kept of a work-group as it is played.
 
 ghost use Rattle.std.specs.Prelude.{◌≡◌, ◌+◌, ◌-◌, ◌<◌, ◌≤◌, ◌^◌, ℕ, List, Option, [], length, All, IfOk, IfSome, OnErr, OnOk};
 ghost use Rattle.clmodel.specs.Cells.{cells_of, lowest_unset, number, size_of};
@@ -6,7 +6,7 @@ ghost use Rattle.clmodel.specs.Launch.{Launch, access_in, bytes_of, first_byte, 
 ghost use Rattle.clmodel.specs.Run.{Memory, by_region};
 ghost use Rattle.clmodel.specs.declared.access.Region.TheVariants as region;
 ghost use Rattle.launches.specs.Objects.{SpacesHold, ObjectsHold, space_of};
-ghost use Rattle.replay.specs.States.{LocalsHold, IsNew, IsPerformed, passed};
+ghost use Rattle.group_memory.specs.Groups.{LocalsHold, IsNew, IsPerformed, passed};
 
 use clmodel::access::{Access, Object, Operation};
 use clmodel::action::{Answer, Fences};
