@@ -1,30 +1,24 @@
 -- Events of items, in what a program keeps of a state.
-use Rattle.std.proofs.Common.{◌≡◌, ℕ, ◌*◌, ◌<◌, ◌≤◌, ◌⊎◌, ℤ, Bool, true, false, ◌&&◌, ◌==◌, nat_lt, Option, None, Some, List, [], ◌∷◌, ◌++◌, length, map, replicate, set, refl, sym, ap, ap₂, ◌∙◌, subst, inl, inr, arith, lt-ltb, ltb-true, eqb-true, eq-eqb, ne_eqb}
-use Rattle.std.specs.Prelude.{slice_get, slice_index, if◌then◌else◌, reverse, Result, Ok, Err}
+use Rattle.std.proofs.Common.{◌≡◌, ℕ, ◌*◌, ◌<◌, ◌≤◌, ◌⊎◌, ℤ, Bool, true, false, ◌&&◌, ◌==◌, nat_lt, Option, None, Some, List, [], ◌∷◌, ◌++◌, length, set, refl, sym, ap, ◌∙◌, subst, inl, inr, arith, lt-ltb, ltb-true, eqb-true, eq-eqb, ne_eqb}
+use Rattle.std.specs.Prelude.{slice_get, if◌then◌else◌, reverse}
 use Rattle.std.specs.Option.{option_map, option_and_then}
-use Rattle.std.proofs.Math.Path.{fun_ext}
-use Rattle.std.proofs.lemmas.List.{length-set, length-map, length-append, length-replicate, reverse-append, append_assoc, append-nil}
+use Rattle.std.proofs.lemmas.List.{length-set, length-append, reverse-append, append_assoc, append-nil}
 use Rattle.std.proofs.lemmas.Nat.{div_below}
-use Rattle.clmodel.specs.Cells.{Cells, Outcome, cells_of, perform, size_of, found, answer_to, effect, lowest_unset, reads}
+use Rattle.clmodel.specs.Cells.{Cells, Outcome, perform, size_of}
 use Rattle.clmodel.specs.Launch.{Launch, bytes_of, first_byte, group_of, region_of, access_in}
 use Rattle.clmodel.specs.Run.{State, Memory, step, item_step, next_action, changed, accessed, access_at, access_of, with_cells, by_region}
 use Rattle.clmodel.specs.declared.access.Access.{Access}
 use Rattle.clmodel.specs.declared.access.Object.{Object}
 use Rattle.clmodel.specs.declared.access.Object.TheVariants as object
 use Rattle.clmodel.specs.declared.access.Operation.{Operation}
-use Rattle.clmodel.specs.declared.access.Region.{Region}
 use Rattle.clmodel.specs.declared.access.Region.TheVariants as region
 use Rattle.clmodel.specs.declared.action.Action.{Action}
 use Rattle.clmodel.specs.declared.action.Action.TheVariants as action
 use Rattle.clmodel.specs.declared.action.Answer.{Answer}
 use Rattle.clmodel.specs.declared.schedule.Event.TheVariants.{Item}
 use Rattle.clmodel.proofs.Steps.{if_true, if_false}
-use Rattle.clmodel.proofs.CellLaws.{found_unset, cells_none}
-use Rattle.spaces.specs.declared.space.SpaceFault.{SpaceFault}
-use Rattle.spaces.specs.declared.space.SpaceFault.TheVariants as space_fault
-use Rattle.launches.specs.Objects.{SpacesHold, ObjectsHold, IsMoved, space_of}
+use Rattle.launches.specs.Objects.{SpacesHold, ObjectsHold}
 use Rattle.launches.proofs.Lists.{get_set}
-use Rattle.launches.proofs.Memory.{space_sized, local_at, local_past}
 use Rattle.item_step.specs.Running.{Running}
 use Rattle.launches.specs.Items.{Runs, acts_of}
 use Rattle.slot_pages.specs.Items.{IsAlike, IsAnswered, IsChanged}

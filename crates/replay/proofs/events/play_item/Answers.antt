@@ -1,4 +1,4 @@
-use Rattle.std.proofs.Common.{◌≡◌, sym, ◌∙◌, subst}
+use Rattle.std.proofs.Common.{sym, ◌∙◌, subst}
 use Rattle.clmodel.specs.declared.schedule.Event.TheVariants as event
 use Rattle.replay.specs.States.{IsAt, IsPlayed}
 use Rattle.replay.specs.Told.{kept}

@@ -1,4 +1,4 @@
-use Rattle.std.proofs.Common.{◌≡◌, ◌<◌, List, length, set, sym, ap, ◌∙◌, refl, subst, arith}
+use Rattle.std.proofs.Common.{◌<◌, List, length, set, sym, ap, ◌∙◌, refl, subst, arith}
 use Rattle.std.specs.Prelude.{slice_get}
 use Rattle.launches.specs.declared.slot.Slot.{Slot}
 use Rattle.slot_pages.specs.Items.{IsAnswered, IsChanged}

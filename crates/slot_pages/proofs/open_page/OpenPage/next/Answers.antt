@@ -1,4 +1,4 @@
-use Rattle.std.proofs.Common.{◌≡◌, ◌<◌, [], List, length, set, sym, ap, ◌∙◌, refl, subst, arith}
+use Rattle.std.proofs.Common.{◌<◌, [], List, length, set, sym, ap, ◌∙◌, refl, subst, arith}
 use Rattle.std.specs.Prelude.{slice_get}
 use Rattle.std.proofs.lemmas.Result.{IfOk-weaker, on_ok_weaker}
 use Rattle.clmodel.proofs.Steps.{some_inj}

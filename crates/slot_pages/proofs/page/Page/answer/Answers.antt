@@ -1,10 +1,9 @@
 use Rattle.std.proofs.Common.{◌≡◌, ◌<◌, ◌%◌, List, length, replicate, sym, ap, ◌∙◌, subst}
 use Rattle.std.specs.Prelude.{slice_get}
-use Rattle.launches.specs.Items.{IsAsked}
 use Rattle.launches.specs.declared.slot.Slot.{Slot}
 use Rattle.launches.specs.declared.slot.Slot.TheVariants as slot
 use Rattle.slot_pages.specs.Items.{IsAnswered, IsChanged}
-use Rattle.slot_pages.specs.Pages.{IsNeeded, slots_in}
+use Rattle.slot_pages.specs.Pages.{slots_in}
 use Rattle.slot_pages.proofs.Changes.{as_many, ended_answered, like_at, stays}
 use Rattle.slot_pages.proofs.Paged.{ended_page, shut_needed}
 use Rattle.slot_pages.specs.declared.page.Page.TheVariants as pages

@@ -1,4 +1,4 @@
-use Rattle.std.proofs.Common.{◌≡◌, ◌∙◌, length, replicate, sym, ap}
+use Rattle.std.proofs.Common.{◌∙◌, length, replicate, sym, ap}
 use Rattle.std.proofs.lemmas.Bool.{false≢true}
 use Rattle.launches.specs.declared.slot.Slot.TheVariants as slot
 use Rattle.slot_pages.specs.Pages.{slots_in}
