@@ -43,8 +43,8 @@ fn page_size(count: u32, item: u32) -> u32
 }
 
 impl<'a> Slots<'a> {
-    /// The slots of so many items that weren't asked yet. It takes some 40 bytes for each 256 of them. An error is out of
-    /// memory.
+    /// The slots of so many items that weren't asked yet. It takes some 40 bytes for each 256 of them. An error is out
+    /// of memory.
     pub fn new(alloc: Global, count: u32) -> Result<Self, AllocError>
         ensures { IfOk result (λ slots. slots ≡ replicate count slot.Waiting) }
     {
