@@ -11,8 +11,8 @@
 //! player is at, and then the player is at the state that the event leads to; else it stays. The other calls tell of
 //! that state: what an item does next, the accesses so far, where an element begins, the lowest byte that is unset, the
 //! number that bytes hold. `into_buffers` hands out the buffers as they are there. An event costs the same however many
-//! items there are, and no buffer is copied. The items' slots are kept by need (`slot_pages`), and so are the groups'
-//! local objects (`group_memory`). `copies` makes the memory with which a player begins.
+//! items there are, and no buffer is copied. The items' slots are kept by need (`slot_pages`), and the groups' local
+//! objects are made by need (`group_memory`). `copies` makes the memory with which a player begins.
 //!
 //! `told_conflict` is the conflict of a fault that tells one (OpenCL 1.2, sections 3.3.1 and 6.12.8). `find_conflict`
 //! finds two accesses of a log with its items, kinds, place and byte that conflict so, exactly where a state with that
