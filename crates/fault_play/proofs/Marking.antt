@@ -74,7 +74,7 @@ missing {A} xs i none = behind (slice_get_cases xs i).1
 -- the slot of an item whose action was told
 found_in :
     {D : Type 0} (launch_of : D → Launch) (started_of : D → ℕ → Running) (l : Launch) (r : ℕ → Running) (p : Player D) (s : State) (item : ℕ) (a : Action)
-    → IsAt launch_of started_of l r p s → IsAskedAt p.items.items item → StandsAt p.items.items item a → (i : Slot) → slice_get p.items.items item ≡ Some i
+    → IsAt launch_of started_of l r p s → IsAskedAt p.items item → StandsAt p.items item a → (i : Slot) → slice_get p.items item ≡ Some i
     → IsFound l r s item a i
 found_in launch_of started_of l r p s item a at asked stands i there =
     record {
@@ -86,26 +86,26 @@ found_in launch_of started_of l r p s item a at asked stands i there =
 
 pub acts_from :
     {D : Type 0} (launch_of : D → Launch) (started_of : D → ℕ → Running) (l : Launch) (r : ℕ → Running) (p : Player D) (s : State) (item : ℕ) (action : Option Action) (stand : Option Stand)
-    → IsAt launch_of started_of l r p s → ActsNext l s item action → IfSome action (λ _. IsAskedAt p.items.items item) → IfSome action (StandsAt p.items.items item)
-    → stand ≡ stand_in p.items.items item → ActsFrom l r s item stand
+    → IsAt launch_of started_of l r p s → ActsNext l s item action → IfSome action (λ _. IsAskedAt p.items item) → IfSome action (StandsAt p.items item)
+    → stand ≡ stand_in p.items item → ActsFrom l r s item stand
 acts_from launch_of started_of l r p s item None stand at past asked stands e =
-    let none : slice_get p.items.items item ≡ None = slice_get_past p.items.items item (subst (λ n. n ≤ item) (sym at.tells.many) past) in
+    let none : slice_get p.items item ≡ None = slice_get_past p.items item (subst (λ n. n ≤ item) (sym at.tells.many) past) in
     subst (ActsFrom l r s item) (sym (e ∙ ap (option_and_then stand_of) none)) (inr past)
 acts_from launch_of started_of l r p s item (Some a) stand at next asked stands e =
     subst (ActsFrom l r s item) (sym e)
-    (stands_at l r s item a (slice_get p.items.items item) (λ none. subst (λ n. n ≤ item) at.tells.many (missing p.items.items item none)) next.1
+    (stands_at l r s item a (slice_get p.items item) (λ none. subst (λ n. n ≤ item) at.tells.many (missing p.items item none)) next.1
     (found_in launch_of started_of l r p s item a at asked stands))
 
 pub divides :
     {D : Type 0} (launch_of : D → Launch) (started_of : D → ℕ → Running) (l : Launch) (r : ℕ → Running) (p : Player D) (s : State) (item : ℕ) (action : Option Action) (dividend : Option Integer)
-    → IsAt launch_of started_of l r p s → ActsNext l s item action → IfSome action (λ _. IsAskedAt p.items.items item) → IfSome action (StandsAt p.items.items item)
-    → dividend ≡ dividend_in p.items.items item → Divides l r s item dividend
+    → IsAt launch_of started_of l r p s → ActsNext l s item action → IfSome action (λ _. IsAskedAt p.items item) → IfSome action (StandsAt p.items item)
+    → dividend ≡ dividend_in p.items item → Divides l r s item dividend
 divides launch_of started_of l r p s item None dividend at past asked stands e =
-    let none : slice_get p.items.items item ≡ None = slice_get_past p.items.items item (subst (λ n. n ≤ item) (sym at.tells.many) past) in
+    let none : slice_get p.items item ≡ None = slice_get_past p.items item (subst (λ n. n ≤ item) (sym at.tells.many) past) in
     subst (Divides l r s item) (sym (e ∙ ap (option_and_then dividend_at) none)) (inl (refl, inr past))
 divides launch_of started_of l r p s item (Some a) dividend at next asked stands e =
     subst (Divides l r s item) (sym e)
-    (divides_at l r s item a (slice_get p.items.items item) (λ none. subst (λ n. n ≤ item) at.tells.many (missing p.items.items item none)) next.1
+    (divides_at l r s item a (slice_get p.items item) (λ none. subst (λ n. n ≤ item) at.tells.many (missing p.items item none)) next.1
     (found_in launch_of started_of l r p s item a at asked stands))
 
 -- ---- marks one behind another

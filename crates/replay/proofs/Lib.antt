@@ -1,4 +1,3 @@
-pub mod Bytes
 pub mod Playing
 pub mod Releasing
 pub mod Starting
@@ -8,5 +7,7 @@ pub mod Played
 pub mod Reaching
 pub mod Showing
 pub mod Telling
+pub mod Standing
+pub mod Keeping
 pub mod Spots
 mod Shown

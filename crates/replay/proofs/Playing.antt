@@ -1,112 +1,38 @@
 -- Events of items, in what a program keeps of a state.
-use Rattle.std.proofs.Common.{◌≡◌, ℕ, ◌*◌, ◌<◌, ◌≤◌, ◌⊎◌, ℤ, Bool, true, false, ◌&&◌, ◌==◌, nat_lt, Option, None, Some, List, [], ◌∷◌, ◌++◌, length, map, replicate, set, refl, sym, ap, ap₂, ◌∙◌, subst, inl, inr, arith, lt-ltb, ltb-true, eqb-true, eq-eqb, ne_eqb}
-use Rattle.std.specs.Prelude.{slice_get, slice_index, if◌then◌else◌, reverse, Result, Ok, Err}
+use Rattle.std.proofs.Common.{◌≡◌, ℕ, ◌*◌, ◌<◌, ◌≤◌, ◌⊎◌, ℤ, Bool, true, false, ◌&&◌, ◌==◌, nat_lt, Option, None, Some, List, [], ◌∷◌, ◌++◌, length, set, refl, sym, ap, ◌∙◌, subst, inl, inr, arith, lt-ltb, ltb-true, eqb-true, eq-eqb, ne_eqb}
+use Rattle.std.specs.Prelude.{slice_get, if◌then◌else◌, reverse}
 use Rattle.std.specs.Option.{option_map, option_and_then}
-use Rattle.std.proofs.Math.Path.{fun_ext}
-use Rattle.std.proofs.lemmas.List.{length-set, length-map, length-append, length-replicate, reverse-append, append_assoc, append-nil}
+use Rattle.std.proofs.lemmas.List.{length-set, length-append, reverse-append, append_assoc, append-nil}
 use Rattle.std.proofs.lemmas.Nat.{div_below}
-use Rattle.clmodel.specs.Cells.{Cells, Outcome, cells_of, perform, size_of, found, answer_to, effect, lowest_unset, reads}
+use Rattle.clmodel.specs.Cells.{Cells, Outcome, perform, size_of}
 use Rattle.clmodel.specs.Launch.{Launch, bytes_of, first_byte, group_of, region_of, access_in}
 use Rattle.clmodel.specs.Run.{State, Memory, step, item_step, next_action, changed, accessed, access_at, access_of, with_cells, by_region}
 use Rattle.clmodel.specs.declared.access.Access.{Access}
 use Rattle.clmodel.specs.declared.access.Object.{Object}
 use Rattle.clmodel.specs.declared.access.Object.TheVariants as object
 use Rattle.clmodel.specs.declared.access.Operation.{Operation}
-use Rattle.clmodel.specs.declared.access.Region.{Region}
 use Rattle.clmodel.specs.declared.access.Region.TheVariants as region
 use Rattle.clmodel.specs.declared.action.Action.{Action}
 use Rattle.clmodel.specs.declared.action.Action.TheVariants as action
 use Rattle.clmodel.specs.declared.action.Answer.{Answer}
 use Rattle.clmodel.specs.declared.schedule.Event.TheVariants.{Item}
 use Rattle.clmodel.proofs.Steps.{if_true, if_false}
-use Rattle.clmodel.proofs.CellLaws.{found_unset, cells_none}
-use Rattle.spaces.specs.declared.space.SpaceFault.{SpaceFault}
-use Rattle.spaces.specs.declared.space.SpaceFault.TheVariants as space_fault
-use Rattle.launches.specs.Objects.{SpacesHold, ObjectsHold, IsMoved, space_of}
+use Rattle.launches.specs.Objects.{SpacesHold, ObjectsHold}
 use Rattle.launches.proofs.Lists.{get_set}
-use Rattle.launches.proofs.Memory.{space_sized, local_at, local_past}
 use Rattle.item_step.specs.Running.{Running}
 use Rattle.launches.specs.Items.{Runs, acts_of}
-use Rattle.replay.specs.Items.{IsAlike, IsAnswered}
-use Rattle.replay.specs.States.{LocalsHold, attempt, IsPerformed, IsGroupIn, Tells, IsPlayed}
-use Rattle.replay.specs.declared.group.Group.{Group}
-use Rattle.replay.specs.declared.group.Performed.{Performed}
+use Rattle.slot_pages.specs.Items.{IsAlike, IsAnswered, IsChanged}
+use Rattle.group_memory.specs.Groups.{LocalsHold, attempt, IsPerformed}
+use Rattle.replay.specs.States.{IsGroupIn, Tells, IsPlayed}
+use Rattle.group_memory.specs.declared.group.Group.{Group}
+use Rattle.group_memory.specs.declared.group.Performed.{Performed}
 use Rattle.launches.specs.declared.slot.Slot.{Slot}
 use Rattle.replay.proofs.Running.{run_set}
-
--- ---- local objects
-
--- unset local objects hold a memory that is unset there
-unset_hold :
-    (l : Launch) (g : ℕ) (m : Memory) → ((number byte : ℕ) → m (region.Local g number) byte ≡ None)
-    → SpacesHold (λ cells. cells) l (length l.local_sizes) (region.Local g) (map (λ size. replicate size None) l.local_sizes) m
-unset_hold l g m unset =
-    record {
-      many = length-map l.local_sizes (λ size. replicate size None);
-      sized = λ n x e. ap length (local_at l.local_sizes n x e) ∙ length-replicate (slice_index l.local_sizes n) None;
-      none = λ n e. local_past l.local_sizes n e;
-      cells = λ n x e. fun_ext (λ byte. ap (λ z. cells_of z byte) (local_at l.local_sizes n x e) ∙ cells_none (slice_index l.local_sizes n) byte ∙ sym (unset n byte));
-    }
-
-pub no_sizes : {A : Type 0} (xs : List A) → 0 ≡ length xs → xs ≡ []
-no_sizes [] h = refl
-no_sizes (x ∷ xs) h = absurd (omega (arith, h))
-
--- local objects that weren't there are made
-pub locals_made :
-    (l : Launch) (g : ℕ) (m : Memory) (sizes : List ℕ) (old new : List (List (Option ℕ))) → new ≡ map (λ size. replicate size None) sizes → old ≡ []
-    → sizes ≡ l.local_sizes → LocalsHold l g old m → SpacesHold (λ cells. cells) l (length l.local_sizes) (region.Local g) new m
-locals_made l g m sizes old new made empty same (inl h) =
-    let none : l.local_sizes ≡ [] = no_sizes l.local_sizes (ap length (sym empty) ∙ h.many) in
-    subst (λ z. SpacesHold (λ cells. cells) l (length l.local_sizes) (region.Local g) z m) (empty ∙ sym (made ∙ ap (map (λ size. replicate size None)) (same ∙ none))) h
-locals_made l g m sizes old new made empty same (inr h) =
-    subst (λ z. SpacesHold (λ cells. cells) l (length l.local_sizes) (region.Local g) z m) (sym (made ∙ ap (map (λ size. replicate size None)) same)) (unset_hold l g m h.1)
-
--- local objects that are there stay
-pub locals_there :
-    (l : Launch) (g : ℕ) (m : Memory) (locals : List (List (Option ℕ))) → (locals ≡ [] → ⊥) → LocalsHold l g locals m
-    → SpacesHold (λ cells. cells) l (length l.local_sizes) (region.Local g) locals m
-locals_there l g m locals some (inl h) = h
-locals_there l g m locals some (inr h) = absurd (some h.0)
-
--- ---- an operation
-
--- the first byte in the space of an object is that in its region
-pub placed_as :
-    (l : Launch) (g : ℕ) (m : Memory) (bs locals : List (List (Option ℕ))) (o : Object) (element : ℤ) (op : Operation) (found : Option ℕ)
-    → found ≡ first_byte (length (space_of (λ b. b) bs locals o)) element (size_of op) → ObjectsHold (λ b. b) l g bs locals m
-    → first_byte (bytes_of l (region_of g o)) element (size_of op) ≡ found
-placed_as l g m bs locals o element op found e h = ap (λ n. first_byte n element (size_of op)) (sym (space_sized (λ b. b) l g bs locals m o h)) ∙ sym e
-
-pub out_of_range :
-    (l : Launch) (g : ℕ) (m : Memory) (o : Object) (element : ℤ) (op : Operation) → first_byte (bytes_of l (region_of g o)) element (size_of op) ≡ None
-    → attempt l g m o element op ≡ None
-out_of_range l g m o element op e = ap (option_and_then (perform op (m (region_of g o)))) e
-
-pub reads_unset :
-    (l : Launch) (g : ℕ) (m : Memory) (o : Object) (element : ℤ) (op : Operation) (first byte : ℕ) → first_byte (bytes_of l (region_of g o)) element (size_of op) ≡ Some first
-    → reads op ≡ true → lowest_unset (m (region_of g o)) first (size_of op) ≡ Some byte → attempt l g m o element op ≡ None
-reads_unset l g m o element op first byte e r u =
-    ap (option_and_then (perform op (m (region_of g o)))) e
-    ∙ ap (option_map (λ x. record { answer = answer_to op x; cells = effect op x (m (region_of g o)) first })) (found_unset op (m (region_of g o)) first byte r u)
-
-pub is_done :
-    (l : Launch) (g : ℕ) (m : Memory) (new : Memory → Type 0) (o : Object) (element : ℤ) (op : Operation) (d : Performed)
-    → first_byte (bytes_of l (region_of g o)) element (size_of op) ≡ Some d.first
-    → (x : ℕ) × (found op (m (region_of g o)) d.first ≡ Some x) × (d.answer ≡ answer_to op x) × new (with_cells m (region_of g o) (effect op x (m (region_of g o)) d.first))
-    → IsPerformed l g new m o element op (Some d)
-is_done l g m new o element op d e h = (
-  record { answer = answer_to op h.0; cells = effect op h.0 (m (region_of g o)) d.first },
-  e,
-  ap (option_map (λ x. record { answer = answer_to op x; cells = effect op x (m (region_of g o)) d.first })) h.1,
-  sym h.2,
-  h.3,
-)
 
 -- ---- an event of an item
 
 -- items of which one was asked, and acts as before
-pub asked :
+asked :
     (l : Launch) (r : ℕ → Running) (items : List Slot) (bs : List (List (Option ℕ))) (groups : List Group) (log : List Access) (s : State) (k : ℕ) (i j : Slot)
     → slice_get items k ≡ Some i → IsAlike l r k i j → Tells l r items bs groups log s
     → Tells l r (set items k j) bs groups log s
@@ -129,6 +55,11 @@ asked l r items bs groups log s k i j there same t =
         ap (λ w. acts_of l q w answers) (sym e.1) ∙ ap (λ n. acts_of l n j answers) e.0 ∙ same.acts answers ∙ t.acting k i there answers
         ∙ ap (λ n. l.next n (s.answers n ++ answers)) (sym e.0)
     acting q z (inr e) answers = t.acting q z e.1 answers
+
+pub asked_in :
+    (l : Launch) (r : ℕ → Running) (items next : List Slot) (bs : List (List (Option ℕ))) (groups : List Group) (log : List Access) (s : State) (k : ℕ)
+    → IsChanged (IsAlike l r k) k items next → Tells l r items bs groups log s → Tells l r next bs groups log s
+asked_in l r items next bs groups log s k c t = subst (λ z. Tells l r z bs groups log s) (sym c.put) (asked l r items bs groups log s k c.from c.to c.there c.how t)
 
 -- the memory of another group's local objects after an operation
 apart : (m : Memory) (g q n : ℕ) (o : Object) (c : Cells) → (q ≡ g → ⊥) → with_cells m (region_of g o) c (region.Local q n) ≡ m (region.Local q n)
@@ -371,63 +302,6 @@ done_in l r items bs cs groups log s k g i j x y o element op d a e t below acts
     (access_done l r items bs cs groups log s k i j x y o element op d a t below acts item answered)
 
 -- ---- what the program's calls say
-
--- a launch of no items
-pub no_launch : Launch
-no_launch =
-    record {
-      items = 0;
-      group_size = 0;
-      buffers = [];
-      unset = λ number byte. false;
-      local_sizes = [];
-      next = λ item answers. action.End;
-      buffer_names = [];
-      local_names = [];
-      source_names = [];
-      uniform = false;
-    }
-
-pub never_out :
-    (old new : Memory → Type 0) (at : Region) (first : ℕ) (op : Operation) (r : Result Answer SpaceFault) (f : SpaceFault) → r ≡ Err f → f ≡ space_fault.Bounds → IsMoved old new at first op r → ⊥
-never_out old new at first op r f e q h = subst (IsMoved old new at first op) (e ∙ ap Err q) h
-
-pub never_read_only :
-    (old new : Memory → Type 0) (at : Region) (first : ℕ) (op : Operation) (r : Result Answer SpaceFault) (f : SpaceFault) → r ≡ Err f → f ≡ space_fault.ReadOnly → IsMoved old new at first op r → ⊥
-never_read_only old new at first op r f e q h = subst (IsMoved old new at first op) (e ∙ ap Err q) h
-
--- where the code finds an element in `xs` and `ys`, slices of the lists
-placed :
-    (l : Launch) (g : ℕ) (m : Memory) {bs ls xs ys : List (List (Option ℕ))} (o : Object) {element told : ℤ} (op : Operation) {first : ℕ}
-    → Some first ≡ first_byte (length (space_of (λ b. b) xs ys o)) told (size_of op) → told ≡ element → xs ≡ bs → ys ≡ ls → ObjectsHold (λ b. b) l g bs ls m
-    → first_byte (bytes_of l (region_of g o)) element (size_of op) ≡ Some first
-placed l g m {bs} {ls} {xs} {ys} o {element} {told} op {first} at same here there held =
-    placed_as l g m bs ls o element op (Some first)
-    (at
-    ∙ ap (λ z. first_byte (length (space_of (λ b. b) xs ys o)) z (size_of op)) same
-    ∙ ap₂ (λ x y. first_byte (length (space_of (λ b. b) x y o)) element (size_of op)) here there) held
-
--- an operation on the space of an object, as the code does it; the lists are `cs` and `ks` after it
-module _
-    (l : Launch) (g : ℕ) (m : Memory) {bs ls cs ks xs ys : List (List (Option ℕ))} (o : Object) {element told : ℤ} (op : Operation) {first : ℕ} {r : Result Answer SpaceFault}
-    (at : Some first ≡ first_byte (length (space_of (λ b. b) xs ys o)) told (size_of op)) (same : told ≡ element) (here : xs ≡ bs) (there : ys ≡ ls)
-    (moved : IsMoved (ObjectsHold (λ b. b) l g bs ls) (ObjectsHold (λ b. b) l g cs ks) (region_of g o) first op r) (held : ObjectsHold (λ b. b) l g bs ls m) where
-  -- it is possible
-  pub performed_ok : (answer : Answer) → r ≡ Ok answer → IsPerformed l g (ObjectsHold (λ b. b) l g cs ks) m o element op (Some (record { first = first; answer = answer }))
-  performed_ok answer e =
-      is_done l g m (ObjectsHold (λ b. b) l g cs ks) o element op (record { first = first; answer = answer }) (placed l g m o op at same here there held)
-      (subst (IsMoved (ObjectsHold (λ b. b) l g bs ls) (ObjectsHold (λ b. b) l g cs ks) (region_of g o) first op) e moved m held)
-
-  -- it reads an unset byte
-  pub performed_unset : (f : SpaceFault) (byte : ℕ) → r ≡ Err f → f ≡ space_fault.Unset byte → IsPerformed l g (ObjectsHold (λ b. b) l g cs ks) m o element op None
-  performed_unset f byte e q =
-      let h = subst (IsMoved (ObjectsHold (λ b. b) l g bs ls) (ObjectsHold (λ b. b) l g cs ks) (region_of g o) first op) (e ∙ ap Err q) moved m held in
-      (reads_unset l g m o element op first byte (placed l g m o op at same here there held) h.0 h.1, h.2)
-
--- where memory is refused, a memory is held as before
-pub wanting_kept : (old new : Memory → Type 0) (at : Region) (first : ℕ) (op : Operation) (r : Result Answer SpaceFault) (f : SpaceFault) → r ≡ Err f → f ≡ space_fault.OutOfMemory
-    → IsMoved old new at first op r → (memory : Memory) → old memory → new memory
-wanting_kept old new at first op r f e q moved = subst (IsMoved old new at first op) (e ∙ ap Err q) moved
 
 -- an item's next action in a state
 pub action_as :

@@ -21,10 +21,12 @@ use Rattle.clmodel.proofs.Steps.{if_true, if_false, lowest_finds, lowest_is_none
 use Rattle.launches.proofs.Lists.{get_set}
 use Rattle.item_step.specs.Running.{Running}
 use Rattle.launches.specs.Items.{Runs, acts_of}
-use Rattle.replay.specs.Items.{AreAlike, AreAt, AreAnswered, IsAnswered}
+use Rattle.replay.specs.Items.{AreAlike, AreAt, AreAnswered}
+use Rattle.slot_pages.specs.Items.{IsAnswered}
 use Rattle.launches.specs.Groups.{IsRunnable}
-use Rattle.replay.specs.States.{ActsNext, IsGroupIn, IsPaced, Tells, Gathers, passed}
-use Rattle.replay.specs.declared.group.Group.{Group}
+use Rattle.group_memory.specs.Groups.{passed}
+use Rattle.replay.specs.States.{ActsNext, IsGroupIn, IsPaced, Tells, Gathers}
+use Rattle.group_memory.specs.declared.group.Group.{Group}
 use Rattle.launches.specs.declared.slot.Slot.{Slot}
 use Rattle.replay.proofs.Playing.{group_there, action_as}
 

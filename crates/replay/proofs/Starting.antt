@@ -12,8 +12,9 @@ use Rattle.launches.proofs.Items.{waiting_at}
 use Rattle.item_step.specs.Running.{Running}
 use Rattle.launches.specs.Items.{acts_of}
 use Rattle.launches.specs.Groups.{filled}
-use Rattle.replay.specs.States.{IsGroupIn, IsNew, Tells}
-use Rattle.replay.specs.declared.group.Group.{Group}
+use Rattle.group_memory.specs.Groups.{IsNew}
+use Rattle.replay.specs.States.{IsGroupIn, Tells}
+use Rattle.group_memory.specs.declared.group.Group.{Group}
 use Rattle.launches.specs.declared.slot.Slot.TheVariants as slot
 use Rattle.replay.proofs.Running.{none_runs}
 

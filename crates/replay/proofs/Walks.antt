@@ -1,8 +1,7 @@
 -- Items that are asked or answered one after another.
-use Rattle.std.proofs.Common.{◌≡◌, ℕ, ◌+◌, ◌<◌, ◌≤◌, ◌⊎◌, Bool, true, false, Some, List, [], set, get_or, length, refl, sym, ap, subst, ◌∙◌, inl, inr, arith}
-use Rattle.std.specs.Prelude.{slice_get, Result, Ok, Err, OnErr}
+use Rattle.std.proofs.Common.{◌≡◌, ℕ, ◌+◌, ◌<◌, ◌≤◌, ◌⊎◌, Bool, true, false, Some, List, [], set, refl, sym, ap, subst, ◌∙◌, inl, inr, arith}
+use Rattle.std.specs.Prelude.{slice_get}
 use Rattle.std.proofs.lemmas.List.{length-set}
-use Rattle.std.proofs.lemmas.Option.{slice_get_read}
 use Rattle.clmodel.specs.Launch.{Launch}
 use Rattle.clmodel.specs.Run.{stop_of, both_stop}
 use Rattle.clmodel.specs.declared.action.Answer.{Answer}
@@ -12,13 +11,9 @@ use Rattle.launches.proofs.Lists.{get_set}
 use Rattle.item_step.specs.Running.{Running}
 use Rattle.launches.specs.Items.{IsAsked}
 use Rattle.replay.proofs.Spots.{below_next}
-use Rattle.replay.specs.Items.{is_at, IsAlike, IsAnswered, AreAlike, AreAsked, AreAt, AreAnswered}
+use Rattle.replay.specs.Items.{is_at, AreAlike, AreAsked, AreAt, AreAnswered, IsAskedAt}
+use Rattle.slot_pages.specs.Items.{IsAlike, IsAnswered, IsChanged}
 use Rattle.launches.specs.declared.slot.Slot.{Slot}
-
--- what holds anyhow holds on an error
-pub on_err : {T E P : Type 0} (r : Result T E) → P → OnErr r P
-on_err (Ok v) p = tt
-on_err (Err e) p = p
 
 -- ---- items that are asked
 
@@ -57,17 +52,9 @@ alike_more l r old new k x y there same h =
         (o.0, ap (slice_get old) e.0 ∙ o.1, alike_as l r j k o.0 y z e.0 e.1 (alike_then l r k o.0 x y o.2 same))
     each j z (inr e) = h.each j z e.1
 
--- an item below the end of a walk over items that act as before
-pub there_still :
-    (l : Launch) (r : ℕ → Running) (old new : List Slot) (k end : ℕ) (x : Slot) → k < end → end ≤ length old → x ≡ get_or new k x → AreAlike l r old new
-    → slice_get new k ≡ Some x
-there_still l r old new k end x below inside is h = let many = h.many in slice_get_read new (length new) k x refl (omega (arith, below, inside, many)) is
-
 -- the walk's next item is asked
-pub alike_next :
-    (l : Launch) (r : ℕ → Running) (old new : List Slot) (k end : ℕ) (x y : Slot) → k < end → end ≤ length old → x ≡ get_or new k x → IsAlike l r k x y
-    → AreAlike l r old new → AreAlike l r old (set new k y)
-alike_next l r old new k end x y below inside is same h = alike_more l r old new k x y (there_still l r old new k end x below inside is h) same h
+pub alike_next : (l : Launch) (r : ℕ → Running) (old new next : List Slot) (k : ℕ) → IsChanged (IsAlike l r k) k new next → AreAlike l r old new → AreAlike l r old next
+alike_next l r old new next k c h = subst (AreAlike l r old) (sym c.put) (alike_more l r old new k c.from c.to c.there c.how h)
 
 -- an item among others that act as before is at a stop if it was
 at_alike :
@@ -95,22 +82,15 @@ at_not l r old new first end k stop x found from below there told here h =
     let o : (w : Slot) × (slice_get old k ≡ Some w) × IsAlike l r k w x = h.each k x there in
     (k, o.0, from, below, o.1, sym (at_alike l r stop k o.0 x o.2) ∙ sym told ∙ here)
 
--- what is true of an item is true of that of its number once it is put there
-pub at_set : (P : Slot → Type 0) (items : List Slot) (k : ℕ) (y : Slot) → P y → (i : Slot) → slice_get (set items k y) k ≡ Some i → P i
-at_set P items k y mine i e = go (get_set items k y k i e)
-  where
-    go : ((k ≡ k) × (y ≡ i)) ⊎ ((k ≡ k → ⊥) × (slice_get items k ≡ Some i)) → P i
-    go (inl h) = subst P h.1 mine
-    go (inr h) = absurd (h.0 refl)
-
 pub asked_none : (items : List Slot) (first : ℕ) → AreAsked items first first
 asked_none items first k from below i e = absurd (omega (arith, from, below))
 
-pub asked_more : (items : List Slot) (first k : ℕ) (y : Slot) → IsAsked y → AreAsked items first k → AreAsked (set items k y) first (k + 1)
-asked_more items first k y mine h j from below i e = go (get_set items k y j i e) (below_next j k below)
+pub asked_more :
+    (How : Slot → Slot → Type 0) (new next : List Slot) (first k : ℕ) → IsChanged How k new next → IsAskedAt next k → AreAsked new first k → AreAsked next first (k + 1)
+asked_more How new next first k c mine h j from below i e = go (get_set new k c.to j i (ap (λ xs. slice_get xs j) (sym c.put) ∙ e)) (below_next j k below)
   where
-    go : ((j ≡ k) × (y ≡ i)) ⊎ ((j ≡ k → ⊥) × (slice_get items j ≡ Some i)) → (j < k) ⊎ (j ≡ k) → IsAsked i
-    go (inl p) q = subst IsAsked p.1 mine
+    go : ((j ≡ k) × (c.to ≡ i)) ⊎ ((j ≡ k → ⊥) × (slice_get new j ≡ Some i)) → (j < k) ⊎ (j ≡ k) → IsAsked i
+    go (inl p) q = mine i (ap (slice_get next) (sym p.0) ∙ e)
     go (inr p) (inl q) = h j from q i p.1
     go (inr p) (inr q) = absurd (p.0 q)
 
@@ -129,11 +109,11 @@ answered_none l first answer items =
     }
 
 -- the walk's next item was asked
-pub asked_still : (l : Launch) (first end : ℕ) (answer : Answer) (old new : List Slot) (k : ℕ) (x : Slot) → first ≤ k → k < end → slice_get new k ≡ Some x → AreAsked old first end
-    → AreAnswered l first k answer old new → IsAsked x
-asked_still l first end answer old new k x from below there asked h = asked k from below x (h.others k x (inr (omega arith)) there)
+pub asked_still :
+    (l : Launch) (first end : ℕ) (answer : Answer) (old new : List Slot) (k : ℕ) → first ≤ k → k < end → AreAsked old first end → AreAnswered l first k answer old new → IsAskedAt new k
+asked_still l first end answer old new k from below asked h x there = asked k from below x (h.others k x (inr (omega arith)) there)
 
-pub answered_more :
+answered_more :
     (l : Launch) (first : ℕ) (answer : Answer) (old new : List Slot) (k : ℕ) (x y : Slot) → first ≤ k → slice_get new k ≡ Some x
     → IsAnswered l answer k x y → AreAnswered l first k answer old new → AreAnswered l first (k + 1) answer old (set new k y)
 answered_more l first answer old new k x y from there answered h =
@@ -168,3 +148,9 @@ answered_more l first answer old new k x y from there answered h =
     others : (j : ℕ) (z : Slot) → (j < first) ⊎ (k + 1 ≤ j) → ((j ≡ k) × (y ≡ z)) ⊎ ((j ≡ k → ⊥) × (slice_get new j ≡ Some z)) → slice_get old j ≡ Some z
     others j z out (inl e) = absurd (not_here j out e.0)
     others j z out (inr e) = h.others j z (out_of j out) e.1
+
+-- and is answered
+pub answered_next :
+    (l : Launch) (first : ℕ) (answer : Answer) (old new next : List Slot) (k : ℕ) → first ≤ k → IsChanged (IsAnswered l answer k) k new next → AreAnswered l first k answer old new
+    → AreAnswered l first (k + 1) answer old next
+answered_next l first answer old new next k from c h = subst (AreAnswered l first (k + 1) answer old) (sym c.put) (answered_more l first answer old new k c.from c.to from c.there c.how h)

@@ -1,5 +1,5 @@
 -- The items of a replayed launch: which were asked, and where each stands (own).
-use Rattle.std.specs.Prelude.{◌≡◌, ℕ, ◌<◌, ◌≤◌, ◌⊎◌, Bool, true, false, Option, None, Some, List, [], ◌∷◌, ◌++◌, length, slice_get}
+use Rattle.std.specs.Prelude.{◌≡◌, ℕ, ◌<◌, ◌≤◌, ◌⊎◌, Bool, true, false, Option, None, Some, List, [], length, slice_get}
 use Rattle.std.specs.Option.{option_and_then}
 use Rattle.clmodel.specs.Launch.{Launch}
 use Rattle.clmodel.specs.Run.{stop_of, both_stop}
@@ -10,6 +10,7 @@ use Rattle.clnum.specs.Integer.{Integer}
 use Rattle.item_step.specs.Dividing.{dividend_of}
 use Rattle.item_step.specs.Running.{Running}
 use Rattle.launches.specs.Items.{IsAsked, Runs, Stands, acts_of}
+use Rattle.slot_pages.specs.Items.{IsAlike, IsAnswered}
 use Rattle.launches.specs.declared.slot.Slot.{Slot}
 use Rattle.launches.specs.declared.slot.Slot.TheVariants as slot
 use Rattle.replay.specs.declared.slot.Stand.{Stand}
@@ -51,12 +52,7 @@ dividend_in items item = option_and_then dividend_at (slice_get items item)
 abbrev pub StandsAt : List Slot → ℕ → Action → Type 0
 StandsAt items item action = (i : Slot) → slice_get items item ≡ Some i → Stands i action
 
--- the item of a number acts as before, and has come where it is with the answers that it had before
-pub record IsAlike (launch : Launch) (started : ℕ → Running) (item : ℕ) (old new : Slot) : Type 0 where
-  pub acts : (answers : List Answer) → acts_of launch item new answers ≡ acts_of launch item old answers
-  pub runs : (answers : List Answer) → Runs (started item) answers old → Runs (started item) answers new
-
--- each item does
+-- each item acts as before, and has come where it is with the answers that it had before
 pub record AreAlike (launch : Launch) (started : ℕ → Running) (old new : List Slot) : Type 0 where
   pub many : length new ≡ length old
   pub each : (k : ℕ) (y : Slot) → slice_get new k ≡ Some y → (x : Slot) × (slice_get old k ≡ Some x) × IsAlike launch started k x y
@@ -70,11 +66,6 @@ abbrev pub AreAt : Launch → List Slot → ℕ → ℕ → Stop → Bool → Ty
 AreAt launch items first end stop true = (k : ℕ) (i : Slot) → first ≤ k → k < end → slice_get items k ≡ Some i → is_at launch stop k i ≡ true
 AreAt launch items first end stop false =
     (k : ℕ) × (i : Slot) × (first ≤ k) × (k < end) × (slice_get items k ≡ Some i) × (is_at launch stop k i ≡ false)
-
--- the item of a number was answered: it acts as it would on this answer, and has come where it is with one answer more
-pub record IsAnswered (launch : Launch) (answer : Answer) (item : ℕ) (old new : Slot) : Type 0 where
-  pub acts : (answers : List Answer) → acts_of launch item new answers ≡ acts_of launch item old (answer ∷ answers)
-  pub runs : (start : Running) (answers : List Answer) → Runs start answers old → Runs start (answers ++ answer ∷ []) new
 
 -- the items from `first` on, below `end`, were each answered alike, and the others are as before
 pub record AreAnswered (launch : Launch) (first end : ℕ) (answer : Answer) (old new : List Slot) : Type 0 where

@@ -3,3 +3,4 @@ pub mod States
 pub mod Nexts
 pub mod Played
 pub mod Spots
+pub mod Told

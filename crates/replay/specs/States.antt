@@ -1,55 +1,22 @@
 -- What a program keeps of a state of a launch while it plays events (own).
-use Rattle.std.specs.Prelude.{◌≡◌, ℕ, ◌+◌, ◌*◌, ◌<◌, ◌≤◌, ℤ, ◌⊎◌, Bool, true, false, Option, None, Some, List, [], length, slice_get, reverse, ◌++◌, if◌then◌else◌}
-use Rattle.std.specs.Option.{option_and_then}
-use Rattle.clmodel.specs.Cells.{Outcome, perform, size_of}
-use Rattle.clmodel.specs.Launch.{Launch, bytes_of, first_byte, group_of, region_of}
-use Rattle.clmodel.specs.Run.{State, Memory, step, next_action, stop_of, both_stop, with_cells}
+use Rattle.std.specs.Prelude.{◌≡◌, ℕ, ◌*◌, ◌<◌, ◌≤◌, Bool, true, false, Option, None, Some, List, length, slice_get, reverse, ◌++◌}
+use Rattle.clmodel.specs.Launch.{Launch, group_of}
+use Rattle.clmodel.specs.Run.{State, step, next_action, stop_of, both_stop}
 use Rattle.clmodel.specs.declared.access.Access.{Access}
-use Rattle.clmodel.specs.declared.access.Object.{Object}
-use Rattle.clmodel.specs.declared.access.Operation.{Operation}
 use Rattle.clmodel.specs.declared.access.Region.TheVariants as region
 use Rattle.clmodel.specs.declared.action.Action.{Action}
 use Rattle.clmodel.specs.declared.action.Answer.{Answer}
-use Rattle.clmodel.specs.declared.action.Fences.{Fences}
 use Rattle.clmodel.specs.declared.action.Stop.{Stop}
 use Rattle.clmodel.specs.declared.schedule.Event.{Event}
 use Rattle.launches.specs.Objects.{SpacesHold}
 use Rattle.item_step.specs.Running.{Running}
 use Rattle.launches.specs.Items.{acts_of}
 use Rattle.launches.specs.Groups.{IsRunnable}
+use Rattle.group_memory.specs.Groups.{LocalsHold}
+use Rattle.group_memory.specs.declared.group.Group.{Group}
 use Rattle.replay.specs.Items.{AllRun}
-use Rattle.replay.specs.declared.group.Group.{Group}
-use Rattle.replay.specs.declared.group.Performed.{Performed}
 use Rattle.replay.specs.declared.player.Player.{Player}
 use Rattle.launches.specs.declared.slot.Slot.{Slot}
-
--- a group's local objects hold a memory: before the first access of an item of the group they aren't made, and all
--- their bytes are unset (6.5.2)
-abbrev pub LocalsHold : Launch → ℕ → List (List (Option ℕ)) → Memory → Type 0
-LocalsHold launch group locals memory =
-    SpacesHold (λ cells. cells) launch (length launch.local_sizes) (region.Local group) locals memory
-    ⊎ ((locals ≡ []) × ((number byte : ℕ) → memory (region.Local group number) byte ≡ None))
-
--- what an operation of an item of a group does to a memory, or None where it is out of range or reads an unset byte
--- (3.3)
-abbrev pub attempt : Launch → ℕ → Memory → Object → ℤ → Operation → Option Outcome
-attempt launch group memory object element operation =
-    option_and_then (perform operation (memory (region_of group object))) (first_byte (bytes_of launch (region_of group object)) element (size_of operation))
-
--- an operation was done, and what is kept holds the memory that it leaves; or it isn't possible, and the memory is as
--- before
-abbrev pub IsPerformed : Launch → ℕ → (Memory → Type 0) → Memory → Object → ℤ → Operation → Option Performed → Type 0
-IsPerformed launch group new memory object element operation None = (attempt launch group memory object element operation ≡ None) × new memory
-IsPerformed launch group new memory object element operation (Some done) =
-    (outcome : Outcome) × (first_byte (bytes_of launch (region_of group object)) element (size_of operation) ≡ Some done.first)
-    × (perform operation (memory (region_of group object)) done.first ≡ Some outcome) × (outcome.answer ≡ done.answer)
-    × new (with_cells memory (region_of group object) outcome.cells)
-
--- what is kept of a group that has made no access and passed no barrier
-pub record IsNew (kept : Group) : Type 0 where
-  pub locals : kept.locals.items ≡ []
-  pub local_interval : kept.local_interval ≡ 0
-  pub global_interval : kept.global_interval ≡ 0
 
 -- what is kept of a group tells of a state
 pub record IsGroupIn (launch : Launch) (group : ℕ) (kept : Group) (state : State) : Type 0 where
@@ -83,7 +50,7 @@ pub record IsAt {D : Type 0} (launch_of : D → Launch) (started_of : D → ℕ 
   pub plays : launch_of player.launch.now ≡ launch
   pub begins : started_of player.launch.now ≡ started
   pub runnable : IsRunnable launch
-  pub tells : Tells launch started player.items.items player.buffers.items player.groups.items player.log.items state
+  pub tells : Tells launch started player.items player.buffers.items player.groups.items player.log.items state
 
 -- an item's next action in a state, or None where there is no such item (3.2)
 abbrev pub ActsNext : Launch → State → ℕ → Option Action → Type 0
@@ -96,15 +63,6 @@ Gathers launch state group stop true =
     (item : ℕ) → item < launch.items → group_of launch item ≡ group → both_stop (Some stop) (stop_of (next_action launch state item)) ≡ true
 Gathers launch state group stop false =
     (item : ℕ) × (item < launch.items) × (group_of launch item ≡ group) × (both_stop (Some stop) (stop_of (next_action launch state item)) ≡ false)
-
--- what is kept of a group once a barrier with these fences is passed (6.12.8)
-abbrev pub passed : Group → Fences → Group
-passed kept fences =
-    record {
-      locals = kept.locals;
-      local_interval = if fences.local then kept.local_interval + 1 else kept.local_interval;
-      global_interval = if fences.global then kept.global_interval + 1 else kept.global_interval;
-    }
 
 -- an event was played, and what is kept tells of the state that it leads to; or it isn't possible, and what is kept
 -- tells of the state as before

@@ -11,7 +11,8 @@
 //! player is at, and then the player is at the state that the event leads to; else it stays. The other calls tell of
 //! that state: what an item does next, the accesses so far, where an element begins, the lowest byte that is unset, the
 //! number that bytes hold. `into_buffers` hands out the buffers as they are there. An event costs the same however many
-//! items there are, and no buffer is copied. `copies` makes the memory with which a player begins.
+//! items there are, and no buffer is copied. The items' slots are kept by need (`slot_pages`), and the groups' local
+//! objects are made by need (`group_memory`). `copies` makes the memory with which a player begins.
 //!
 //! `told_conflict` is the conflict of a fault that tells one (OpenCL 1.2, sections 3.3.1 and 6.12.8). `find_conflict`
 //! finds two accesses of a log with its items, kinds, place and byte that conflict so, exactly where a state with that
@@ -33,15 +34,16 @@ mod conflicts;
 mod dividends;
 mod events;
 mod faults;
-mod group;
 mod members;
 mod nexts;
 mod places;
 mod player;
 mod slot;
+mod told;
 
 use crate::events::play_schedule;
 use crate::faults::shows;
+use crate::told::Told;
 pub use buffers::copies;
 use clmodel::fault::Fault;
 use clmodel::schedule::Schedule;
@@ -57,8 +59,8 @@ use std::alloc::{AllocError, Global};
 
 /// Whether a schedule leads a launch to a state that shows a fault: each event is possible in its turn (OpenCL 1.2,
 /// section 3.2), and the state after all of them shows the fault with its items, places and kinds. It takes the time of
-/// the events and of two passes over the accesses that they make, and ends with the first event that isn't possible.
-/// The buffers stay. An error is out of memory.
+/// the events and of two passes over the accesses of which the fault tells, those of two items at most, and ends with
+/// the first event that isn't possible. It keeps no other accesses. The buffers stay. An error is out of memory.
 pub fn replay(
     alloc: Global,
     launch: &Launch<'_>,
@@ -74,7 +76,8 @@ pub fn replay(
     let groups = group_count(launch);
     let memory = copies(alloc, launch.buffer_names(), buffers)?;
     let mut player = Player::new(alloc, &loaded, groups, memory)?;
-    if !play_schedule(&mut player, schedule)? {
+    let told = Told::by(fault);
+    if !play_schedule(&mut player, told, schedule)? {
         return Ok(false);
     }
     shows(alloc, &loaded, &mut player, fault)

@@ -13,25 +13,28 @@ ghost use Rattle.launches.specs.Groups.{IsRunnable, filled};
 ghost use Rattle.launches.specs.Objects.{SpacesHold};
 ghost use Rattle.replay.specs.Items.{AreAsked, IsAskedAt, StandsAt, dividend_in, stand_in};
 ghost use Rattle.replay.specs.States.{ActsNext, Gathers, IsAt, IsPlayed};
+ghost use Rattle.replay.specs.Told.{with_log, without_newest};
 
 use crate::dividends::dividend_at;
-use crate::group::{Group, new_groups};
 use crate::members::{answer_all, are_at};
-use crate::slot::{Stand, answer, stand_of};
+use crate::slot::{Stand, stand_of};
 use clmodel::access::{Access, Object, Operation};
 use clmodel::action::{Action, Fences, Stop};
 use clmodel::schedule::Event;
 use clnum::Value;
-use launches::{Runnable, Slot, waiting_items};
+use group_memory::{Group, new_groups};
+use launches::Runnable;
+use slot_pages::Slots;
 use spaces::{BufferMem, Space, first_byte};
 use std::alloc::{AllocError, Global};
 
-/// A launch as it is played: its items, one memory that they share, and the accesses so far, the oldest first.
+/// A launch as it is played: its items, one memory that they share, and the accesses so far, the oldest first. Items
+/// that weren't asked yet take no memory to speak of, nor do those that have ended.
 #[derive(Drop)]
 pub struct Player<'a, D> {
     alloc: Global,
     launch: &'a D,
-    items: Vec<Slot<'a>>,
+    items: Slots<'a>,
     buffers: Vec<BufferMem>,
     groups: Vec<Group>,
     log: Vec<Access>,
@@ -51,7 +54,7 @@ impl<'a, D: Runnable> Player<'a, D> {
         requires filled { buffers.items ≡ filled (D.launch launch.now) }
         ensures { IfOk result (λ player. IsAt D.launch D.started (D.launch launch.now) (D.started launch.now) player (start (D.launch launch.now))) }
     {
-        let items = waiting_items(alloc, groups * launch.group_size())?;
+        let items = Slots::new(alloc, groups * launch.group_size())?;
         let groups = new_groups(alloc, groups)?;
         Ok(Player {
             alloc,
@@ -73,7 +76,7 @@ impl<'a, D: Runnable> Player<'a, D> {
         operation: Operation,
     ) -> Result<bool, AllocError>
         requires at { (launch : Launch) × (started : ℕ → Running) × (state : State) × IsAt D.launch D.started launch started self.old state × (item < launch.items) }
-        requires asked { IsAskedAt self.old.items.items item }
+        requires asked { IsAskedAt self.old.items item }
         ensures played { IfOk result (λ yes. (launch : Launch) (started : ℕ → Running) (state : State) → IsAt D.launch D.started launch started self.old state → next_action launch state item ≡ action.Access object element operation
             → IsPlayed launch state (event.Item item) (IsAt D.launch D.started launch started self.new) yes) }
         ensures same { OnErr result ((launch : Launch) (started : ℕ → Running) (state : State) → IsAt D.launch D.started launch started self.old state → IsAt D.launch D.started launch started self.new state) }
@@ -94,7 +97,7 @@ impl<'a, D: Runnable> Player<'a, D> {
         };
         let access = group.access_of(number, item, object, done.first, operation);
         self.log.push_reserved(access);
-        answer(&mut self.items[item as usize], done.answer);
+        self.items.answer(item, done.answer);
         Ok(true)
     }
 
@@ -103,22 +106,22 @@ impl<'a, D: Runnable> Player<'a, D> {
     pub fn action(&mut self, item: u32) -> Result<Option<Action>, AllocError>
         ensures same { (launch : Launch) (started : ℕ → Running) (state : State) → IsAt D.launch D.started launch started self.old state → IsAt D.launch D.started launch started self.new state }
         ensures value { IfOk result (λ action. (launch : Launch) (started : ℕ → Running) (state : State) → IsAt D.launch D.started launch started self.old state → ActsNext launch state item action) }
-        ensures asked { IfOk result (λ action. IfSome action (λ _. IsAskedAt self.new.items.items item)) }
-        ensures stands { IfOk result (λ action. IfSome action (StandsAt self.new.items.items item)) }
+        ensures asked { IfOk result (λ action. IfSome action (λ _. IsAskedAt self.new.items item)) }
+        ensures stands { IfOk result (λ action. IfSome action (StandsAt self.new.items item)) }
     {
-        if item as usize >= self.items.len() {
+        if item >= self.items.len() {
             return Ok(None);
         }
-        let action = self.items[item as usize].next(self.alloc, self.launch, item)?;
+        let action = self.items.next(self.alloc, self.launch, item)?;
         Ok(Some(action))
     }
 
     /// Where an item stands, if it is under way. Once `action` has told its next action, it is the instruction that
     /// makes the action. An item that wasn't asked, or has ended, stands nowhere.
     pub fn stand(&self, item: u32) -> Option<Stand>
-        ensures { result ≡ stand_in self.now.items.items item }
+        ensures { result ≡ stand_in self.now.items item }
     {
-        match self.items.get(item as usize) {
+        match self.items.get(item) {
             Some(slot) => stand_of(slot, self.alloc),
             None => None,
         }
@@ -127,9 +130,9 @@ impl<'a, D: Runnable> Player<'a, D> {
     /// The left operand of the division where an item stands, if it is under way and stands at one (C99 6.5.5). Once
     /// `action` has told its next action, it is that of the division that makes the action.
     pub fn dividend(&self, item: u32) -> Option<Value>
-        ensures { result ≡ dividend_in self.now.items.items item }
+        ensures { result ≡ dividend_in self.now.items item }
     {
-        match self.items.get(item as usize) {
+        match self.items.get(item) {
             Some(slot) => dividend_at(slot),
             None => None,
         }
@@ -140,6 +143,13 @@ impl<'a, D: Runnable> Player<'a, D> {
         ensures { (launch : Launch) (started : ℕ → Running) (state : State) → IsAt D.launch D.started launch started self.now state → result.now ≡ reverse state.log }
     {
         self.log.as_slice()
+    }
+
+    /// Lets the newest access of the log go, if there is one: the player is then at the state without it.
+    pub(crate) fn forget(&mut self)
+        ensures { (launch : Launch) (started : ℕ → Running) (state : State) → IsAt D.launch D.started launch started self.old state → IsAt D.launch D.started launch started self.new (with_log state (without_newest state.log)) }
+    {
+        self.log.pop();
     }
 
     /// How many bytes an object has, none where there is no such object.
@@ -237,7 +247,7 @@ impl<'a, D: Runnable> Player<'a, D> {
         ensures same { (launch : Launch) (started : ℕ → Running) (state : State) → IsAt D.launch D.started launch started self.old state → IsAt D.launch D.started launch started self.new state }
         ensures value { IfOk result (λ yes. (launch : Launch) (started : ℕ → Running) (state : State) → IsAt D.launch D.started launch started self.old state → Gathers launch state group stop.now yes) }
         ensures asked { IfOk result (λ yes. yes ≡ true → (launch : Launch) (started : ℕ → Running) (state : State) → IsAt D.launch D.started launch started self.old state
-            → AreAsked self.new.items.items (group * launch.group_size) (group * launch.group_size + launch.group_size)) }
+            → AreAsked self.new.items (group * launch.group_size) (group * launch.group_size + launch.group_size)) }
     {
         let size = self.launch.group_size();
         let first = group * size;
@@ -256,7 +266,7 @@ impl<'a, D: Runnable> Player<'a, D> {
     fn release(&mut self, group: u32, fences: Fences)
         requires { (launch : Launch) × (started : ℕ → Running) × (state : State) × (instance : Instance) × IsAt D.launch D.started launch started self.old state × (group * launch.group_size < launch.items)
             × (next_action launch state (group * launch.group_size) ≡ action.Barrier instance fences)
-            × AreAsked self.old.items.items (group * launch.group_size) (group * launch.group_size + launch.group_size) }
+            × AreAsked self.old.items (group * launch.group_size) (group * launch.group_size + launch.group_size) }
         ensures { (launch : Launch) (started : ℕ → Running) (state : State) → IsAt D.launch D.started launch started self.old state → IsAt D.launch D.started launch started self.new (released launch state group fences) }
     {
         self.groups[group as usize].pass(fences);

@@ -2,9 +2,9 @@ use Rattle.std.proofs.Common.{◌∙◌, ℕ, map, ap, ap₂, sym, subst}
 use Rattle.std.specs.Bool.{Decides}
 use Rattle.std.proofs.lemmas.Result.{IfOk-weaker}
 use Rattle.clmodel.specs.Launch.{Launch}
-use Rattle.clmodel.specs.Law.{Reaches}
+use Rattle.clmodel.specs.Law.{Reaches, Shows}
 use Rattle.clmodel.specs.Outcome.{events_of}
-use Rattle.clmodel.specs.Run.{start}
+use Rattle.clmodel.specs.Run.{State, start}
 use Rattle.item_step.specs.Launches.{setup_of, started}
 use Rattle.item_step.specs.Running.{Running}
 use Rattle.launches.specs.Groups.{IsRunnable, filled, launch_in}
@@ -13,6 +13,8 @@ use Rattle.launches.proofs.Filled.{filled_in}
 use Rattle.spaces.specs.Buffers.{bytes_in, flags_in}
 use Rattle.launches.specs.declared.loaded.LoadedLaunch.{LoadedLaunch}
 use Rattle.replay.specs.States.{IsAt}
+use Rattle.replay.specs.Told.{kept}
+use Rattle.replay.proofs.Keeping.{shows_kept}
 use Rattle.replay.proofs.Showing.{never}
 use Rattle.replay.proofs.Reaching.{never_reaches, reaches, played, unplayed}
 use Rattle.replay.proofs.replay.Goals as goal
@@ -37,6 +39,11 @@ of_loaded loaded = launch_in (setup_of loaded.launch.now) loaded.buffers.now
 abbrev of_starts : LoadedLaunch → ℕ → Running
 of_starts loaded = started loaded.launch.now
 
+pub play_schedule-requires : goal.play_schedule-requires
+play_schedule-requires c =
+    let l = of_loaded c.new-loaded.result in
+    (l, of_starts c.new-loaded.result, start l, c.in_ok-player.ensures)
+
 pub returns-then-not-branch : goal.returns-then-not-branch
 returns-then-not-branch c =
     let same = ap₂ (λ x b. launch_in (setup_of x) b) c.new-loaded.ensures.launch c.new-loaded.ensures.buffers in
@@ -47,7 +54,7 @@ returns-then-not-branch c =
     never
     (subst (λ z. Reaches z events f → ⊥) same
     (never_reaches l events f
-    (unplayed l (start l) events (IsAt {D = LoadedLaunch} of_loaded of_starts l r c.play_schedule.new.player) c.in_ok-play_schedule.field-0
+    (unplayed l (start l) events (λ (n : State). IsAt {D = LoadedLaunch} of_loaded of_starts l r c.play_schedule.new.player (kept c.by-told.result n)) c.in_ok-play_schedule.field-0
     (c.in_ok-play_schedule.ensures l r (start l) c.in_ok-player.ensures) c.if-not-branch.true)))
 
 pub shows-requires : goal.shows-requires
@@ -56,9 +63,9 @@ shows-requires c =
     let r = of_starts c.new-loaded.result in
     let events = events_of c.args.schedule.now in
     let p =
-    played l (start l) events (IsAt {D = LoadedLaunch} of_loaded of_starts l r c.play_schedule.new.player) c.in_ok-play_schedule.field-0
+    played l (start l) events (λ (n : State). IsAt {D = LoadedLaunch} of_loaded of_starts l r c.play_schedule.new.player (kept c.by-told.result n)) c.in_ok-play_schedule.field-0
     (c.in_ok-play_schedule.ensures l r (start l) c.in_ok-player.ensures) c.if-not-branch.false in
-    (r, p.0, p.2)
+    (r, kept c.by-told.result p.0, p.2)
 
 pub returns : goal.returns
 returns c =
@@ -68,8 +75,11 @@ returns c =
     let events = events_of c.args.schedule.now in
     let f = c.args.fault.now in
     let p =
-    played l (start l) events (IsAt {D = LoadedLaunch} of_loaded of_starts l r c.play_schedule.new.player) c.in_ok-play_schedule.field-0
+    played l (start l) events (λ (n : State). IsAt {D = LoadedLaunch} of_loaded of_starts l r c.play_schedule.new.player (kept c.by-told.result n)) c.in_ok-play_schedule.field-0
     (c.in_ok-play_schedule.ensures l r (start l) c.in_ok-player.ensures) c.if-not-branch.false in
     IfOk-weaker c.shows.result _ _
-    (λ answer h. subst (λ z. Decides answer (Reaches z events f)) same (reaches l events f p.0 answer p.1 (h r p.0 p.2)))
+    (λ answer h.
+    subst (λ z. Decides answer (Reaches z events f)) same
+    (reaches l events f p.0 answer p.1
+    (shows_kept l p.0 f answer (subst (λ t. Decides answer (Shows l (kept t p.0) f)) c.by-told.ensures (h r (kept c.by-told.result p.0) p.2)))))
     c.shows.ensures

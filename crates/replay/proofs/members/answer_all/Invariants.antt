@@ -4,4 +4,4 @@ use Rattle.replay.specs.Items.{AreAnswered}
 use Rattle.replay.proofs.members.answer_all.Given as goal
 
 abbrev pub invariant-loop-item : goal.invariant-loop-item
-invariant-loop-item l = (launch : Launch) → AreAnswered launch l.fn.first l.item Done l.fn.items.items l.items.items
+invariant-loop-item l = (launch : Launch) → AreAnswered launch l.fn.first l.item Done l.fn.items l.items

@@ -5,7 +5,7 @@ use Rattle.replay.proofs.members.are_at.Given as goal
 abbrev pub invariant-loop-item : goal.invariant-loop-item
 invariant-loop-item g l =
     record {
-      alike : AreAlike (g.D.Described.launch l.fn.launch) (g.D.Runnable.started l.fn.launch) l.fn.items.items l.items.items;
-      asked : AreAsked l.items.items l.fn.first l.item;
-      at : AreAt (g.D.Described.launch l.fn.launch) l.fn.items.items l.fn.first l.item l.fn.stop true;
+      alike : AreAlike (g.D.Described.launch l.fn.launch) (g.D.Runnable.started l.fn.launch) l.fn.items l.items;
+      asked : AreAsked l.items l.fn.first l.item;
+      at : AreAt (g.D.Described.launch l.fn.launch) l.fn.items l.fn.first l.item l.fn.stop true;
     }

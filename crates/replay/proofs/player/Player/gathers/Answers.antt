@@ -29,9 +29,9 @@ returns-clause-same g c = λ l r s at.
       begins = at.begins;
       runnable = at.runnable;
       tells =
-          alike_tells l r p.items.items c.are_at.new.items.items p.buffers.items p.groups.items p.log.items s
-          (subst (λ z. AreAlike l z p.items.items c.are_at.new.items.items) at.begins
-          (subst (λ z. AreAlike z (g.D.Runnable.started p.launch.now) p.items.items c.are_at.new.items.items) at.plays c.are_at.ensures.same)) at.tells;
+          alike_tells l r p.items c.are_at.new.items p.buffers.items p.groups.items p.log.items s
+          (subst (λ z. AreAlike l z p.items c.are_at.new.items) at.begins
+          (subst (λ z. AreAlike z (g.D.Runnable.started p.launch.now) p.items c.are_at.new.items) at.plays c.are_at.ensures.same)) at.tells;
     }
 
 pub returns-clause-value : goal.returns-clause-value
@@ -41,10 +41,10 @@ returns-clause-value g c =
     IfOk-weaker c.are_at.result _ _
     (λ yes h. λ l r s at.
     let there : n * l.group_size < l.items = subst (λ z. n * z.group_size < z.items) (sym c.requires.3.plays ∙ at.plays) c.requires.4 in
-    gathers_as l r p.items.items p.buffers.items p.groups.items p.log.items s n c.args.stop.now yes at.runnable.grouped at.tells
+    gathers_as l r p.items p.buffers.items p.groups.items p.log.items s n c.args.stop.now yes at.runnable.grouped at.tells
     (group_ends l p.groups.items n l.group_size refl at.tells.grouped there)
-    (subst (λ z. AreAt l p.items.items (n * z) (n * z + z) c.args.stop.now yes) (c.group_size-size.ensures.value ∙ ap (λ z. z.group_size) at.plays)
-    (subst (λ z. AreAt z p.items.items (n * c.group_size-size.result) (n * c.group_size-size.result + c.group_size-size.result) c.args.stop.now yes) at.plays h)))
+    (subst (λ z. AreAt l p.items (n * z) (n * z + z) c.args.stop.now yes) (c.group_size-size.ensures.value ∙ ap (λ z. z.group_size) at.plays)
+    (subst (λ z. AreAt z p.items (n * c.group_size-size.result) (n * c.group_size-size.result + c.group_size-size.result) c.args.stop.now yes) at.plays h)))
     c.are_at.ensures.value
 
 pub returns-clause-asked : goal.returns-clause-asked
@@ -52,5 +52,5 @@ returns-clause-asked g c =
     let n = c.args.group in
     IfOk-weaker c.are_at.result _ _
     (λ yes h. λ told l r s at.
-    subst (λ z. AreAsked c.are_at.new.items.items (n * z) (n * z + z)) (c.group_size-size.ensures.value ∙ ap (λ z. z.group_size) at.plays) (h told))
+    subst (λ z. AreAsked c.are_at.new.items (n * z) (n * z + z)) (c.group_size-size.ensures.value ∙ ap (λ z. z.group_size) at.plays) (h told))
     c.are_at.ensures.asked

@@ -19,8 +19,8 @@ returns g c =
       begins = refl;
       runnable = c.requires.runnable;
       tells =
-          subst (λ z. Tells l r z c.args.buffers.items c.in_ok-groups.groups.items c.new.result.items (start l)) (sym c.in_ok-items.ensures)
-          (subst (λ z. Tells l r (replicate (c.args.groups * c.group_size.result) slot.Waiting) z c.in_ok-groups.groups.items c.new.result.items (start l)) (sym c.requires.filled)
-          (subst (λ z. Tells l r (replicate (c.args.groups * c.group_size.result) slot.Waiting) (filled l) c.in_ok-groups.groups.items z (start l)) (sym {A = List Access} c.new.ensures.items)
+          subst (λ z. Tells l r z c.args.buffers.items c.in_ok-groups.groups.items c.new-2.result.items (start l)) (sym c.in_ok-items.ensures)
+          (subst (λ z. Tells l r (replicate (c.args.groups * c.group_size.result) slot.Waiting) z c.in_ok-groups.groups.items c.new-2.result.items (start l)) (sym c.requires.filled)
+          (subst (λ z. Tells l r (replicate (c.args.groups * c.group_size.result) slot.Waiting) (filled l) c.in_ok-groups.groups.items z (start l)) (sym {A = List Access} c.new-2.ensures.items)
           (starts l r (c.args.groups * c.group_size.result) c.in_ok-groups.groups.items counted whole c.in_ok-groups.ensures.fresh)));
     }

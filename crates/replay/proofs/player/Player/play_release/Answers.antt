@@ -5,7 +5,7 @@ use Rattle.clmodel.proofs.Steps.{release_at}
 use Rattle.replay.specs.States.{ActsNext, Gathers}
 use Rattle.replay.proofs.Playing.{is_none}
 use Rattle.replay.proofs.Releasing.{group_begins, group_ends, led_by, no_leader, no_group, not_waiting, straggles, gathered, not_both}
-use Rattle.replay.proofs.Walks.{on_err}
+use Rattle.group_memory.proofs.Operations.{on_err}
 use Rattle.replay.proofs.player.Player.play_release.Goals as goal
 
 pub returns-then-group-len-clause-played : goal.returns-then-group-len-clause-played
