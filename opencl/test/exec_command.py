@@ -27,7 +27,6 @@ __kernel void shift(__global int *data) {
 """
 SCRIPT = f"""\
 buffer a 20
-fill a 0 20 00
 program p {SOURCE.count(chr(10))}
 {SOURCE}kernel k p shift
 arg k 0 buffer a
@@ -47,8 +46,6 @@ __kernel void typed(__global int *a, __global float *b) {
 TYPED_SCRIPT = f"""\
 buffer a 12
 buffer b 8
-fill a 0 12 00
-fill b 0 8 00
 program p {TYPED.count(chr(10))}
 {TYPED}kernel k p typed
 arg k 0 buffer a
