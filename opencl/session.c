@@ -254,9 +254,12 @@ bool zeroes_unset(void) {
     return wanted && !strcmp(wanted, "zero");
 }
 
+// What new buffers are without a setting. (They are to be unset, once the device that goes with this driver has such.)
+static const bool are_zero_by_themselves = true;
+
 bool zeroes_buffers(void) {
     const char *wanted = setting("CLSIM_ZERO");
-    return wanted && !strcmp(wanted, "1");
+    return wanted && (!strcmp(wanted, "0") || !strcmp(wanted, "1")) ? *wanted == '1' : are_zero_by_themselves;
 }
 
 bool goes_past_flags(void) {

@@ -69,7 +69,6 @@ void set_driver(arena *a, const char *script, bool has_orders) {
                                          "CLSIM_ASKED",    "CLSIM_ORDERS", "CLSIM_FLAGS"};
     for (size_t i = 0; i < sizeof others / sizeof *others; i++) unsetenv(others[i]);
     if (has_orders) setenv("CLSIM_ORDERS", "always", 1);
-    setenv("CLSIM_ZERO", "1", 0); // (a buffer without contents is zeros, if nothing else is asked for)
     find_device(a);
     if (script) record_script(a, script);
 }

@@ -168,7 +168,6 @@ int main(int count, char **words) {
         fprintf(stderr, "oclrun: SCRIPT..\n");
         return 2;
     }
-    setenv("CLSIM_ZERO", "1", 0); // (as a script's buffers are without the word `unset`)
     for (int i = 1; i < count; i++) {
         static char script[1 << 22], path[4096];
         FILE *file = fopen(words[i], "rb");

@@ -82,12 +82,12 @@ def by_itself(bench, name, explains):
 
 
 def not_asked_for(bench, name):
-    """Without the setting, and by `never`, it is a fault as any other; the script, on zeros, is of version 2."""
+    """Without the setting, and by `never`, it is a fault as any other; the script is of version 2."""
     script = bench.path(f"orders_never_{name}")
     for settings, answer in [({}, [-59] * LAUNCHES), ({"CLSIM_ORDERS": "never"}, [-59] * LAUNCHES),
                              ({"CLSIM_ORDERS": "0", "CLSIM_ON_FAULT": "go"}, [0, -59] * LAUNCHES)]:
         told = bench.run([bench.path("ordered"), name], 9, CLSIM_SCRIPT=script, CLSIM_STATUS="9", CLSIM_EXPLAIN="",
-                         CLSIM_ZERO="1", **settings)
+                         **settings)
         # (a launch that waits answers success, and its event has the error)
         found = answers(told)
         want(found[:-2] == answer[:-2] if "CLSIM_ON_FAULT" in settings else found == [-59, -59, 0, -59], told)

@@ -1,4 +1,4 @@
-"""Tests of buffers that nobody set: what launches and reads of them answer, what is told of them, and what
+"""Tests of buffers that nobody set (CLSIM_ZERO): what launches and reads of them answer, what is told of them, and what
 is recorded; by a host program in C (unset.c).
 
 `tests(bench, explains)` gives those of opencl/test/run, each with its name and the call that fails or doesn't; none
@@ -40,7 +40,7 @@ def lines_of(told):
 def unset(bench, name, explains):
     """Each case, with what is told of it."""
     script = bench.path(f"unset_{name}")
-    told = bench.run([bench.path("unset"), name], CLSIM_SCRIPT=script)
+    told = bench.run([bench.path("unset"), name], CLSIM_ZERO="0", CLSIM_SCRIPT=script)
     lines = lines_of(told)
     want("unset bytes are right" in told, told)
     found = [line for line in lines if line.startswith("unset: ")]
@@ -81,6 +81,6 @@ def tests(bench, explains):
 
 def older_device(bench):
     """On a device that has no such buffers new ones are zero, which is told once."""
-    told = bench.run([bench.path("unset"), "given"])
+    told = bench.run([bench.path("unset"), "given"], CLSIM_ZERO="0")
     want("unset bytes are right" in told
          and told.count("clsim: this clsim has no buffers that nobody set: new ones are zero\n") == 1, told)
