@@ -254,7 +254,8 @@ bool zeroes_unset(void) {
     return wanted && !strcmp(wanted, "zero");
 }
 
-// What new buffers are without a setting. (They are to be unset, once the device that goes with this driver has such.)
+// What new buffers are without a setting. (They are to be unset, once a read of a buffer with many unset parts is one
+// command, and not two for each part.)
 static const bool are_zero_by_themselves = true;
 
 bool zeroes_buffers(void) {

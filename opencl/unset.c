@@ -25,8 +25,8 @@ void tell_unset(const command *c, const unset_bytes *u) {
     if (u->others) snprintf(more, sizeof more, ", and %zu byte%s more", u->others, u->others == 1 ? "" : "s");
     tell("unset: command %u, %s, reads bytes %zu to %zu of b%u%s, which nobody has set", c->number,
          name_of_call(c->type), u->first, u->first + u->count - 1, m->number, more);
-    tell("  buffer b%u has %zu bytes, and call %u of clCreateBuffer made it without bytes of the host", m->number,
-         m->size, m->made);
+    tell("  buffer b%u has %zu bytes, and call %u of clCreateBuffer made it%s", m->number, m->size, m->made,
+         m->is_unset ? " without bytes of the host" : "");
     tell("  the host is given 0 for these bytes; on a device they may be any (CLSIM_ZERO=1: new buffers are zero)");
 }
 
@@ -37,7 +37,7 @@ void tell_maker(cl_kernel k, unsigned number) {
         cl_mem whole = whole_of(m);
         tell("  buffer b%u: call %u of clCreateBuffer made it, with %zu bytes%s", whole->number, whole->made,
              whole->size, whole->is_unset ? " and none of the host" : "");
-        tell("  no command and no launch has left a value in this byte (CLSIM_ZERO=1: new buffers are zero)");
+        tell("  nobody set this byte, or unset bytes were copied there (CLSIM_ZERO=1: new buffers are zero)");
         return;
     }
 }

@@ -52,7 +52,7 @@ def unset(bench, name, explains):
         want(made in lines, told)
         reply = "reply: fault 5 unset item 2 load buffer b_ byte 8 schedule "
         want(any(line.startswith(reply) for line in lines), told)
-        want(not explains or any("no command and no launch before this one" in line for line in lines), told)
+        want(not explains or any("had no value before this launch" in line for line in lines), told)
     with open(script, encoding="ascii") as file:
         want(file.readline() == "clsim 3\n", "the script is of another version")
 

@@ -304,7 +304,7 @@ fn words_of(alloc: Global, reason: &Reason) -> Result<String, AllocError> {
         } => elements_words(alloc, name.as_str(), *bytes, *elements, *width),
         Reason::ZeroDivisor { left } => divisor_words(alloc, *left),
         Reason::NeverSet { buffer } => format!(in alloc;
-            "no command and no launch before this one has left a value in this byte of buffer {buffer}"
+            "this byte of buffer {buffer} had no value before this launch: nobody set it, or unset bytes were copied there"
         ),
         Reason::NearestStores { below, above } => nearest_words(alloc, below, above),
         Reason::Budget(budget) => budget_words(alloc, budget),

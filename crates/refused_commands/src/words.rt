@@ -197,7 +197,7 @@ fn unset_words(
         Some(made) => {
             let line = made.script_line;
             format!(in alloc;
-                "byte {byte} of buffer {name} is unset: no command and no launch has left a value there since line {line}"
+                "byte {byte} of buffer {name} is unset: nobody set it since line {line}, or unset bytes were copied there"
             )
         }
         None => format!(in alloc; "byte {byte} of buffer {name} is unset"),
