@@ -6,11 +6,6 @@ use Rattle.clmodel.specs.Cells.{Cells, cells_of, byte_of, joined, number, unset_
 use Rattle.clmodel.proofs.CellLaws.{covers_parts, covers_from}
 use Rattle.clmodel.proofs.Steps.{decided}
 
--- the cells of a row, each as it is
-pub same_cells : (cells : List (Option ℕ)) → map (λ cell. cell) cells ≡ cells
-same_cells [] = refl
-same_cells (cell ∷ cells) = ap (λ xs. cell ∷ xs) (same_cells cells)
-
 -- a byte of a row, and of one whose cells are read by a function
 pub cell_at : (cells : List (Option ℕ)) (k : ℕ) (d : Option ℕ) → k < length cells → cells_of cells k ≡ get_or cells k d
 cell_at [] k d h = absurd (omega (arith, h))

@@ -1,6 +1,6 @@
 //! Bytes in a row.
 
-ghost use Rattle.std.specs.Prelude.{◌≡◌, ◌<◌, Some, None, map, length, replicate, false, if◌then◌else◌, slice_get, is_some, unwrap_or, IfOk};
+ghost use Rattle.std.specs.Prelude.{◌≡◌, ◌<◌, None, length, replicate, false, if◌then◌else◌, slice_get, is_some, unwrap_or, IfOk};
 ghost use Rattle.clmodel.specs.Cells.{cells_of, is_flagged, held_cells};
 ghost use Rattle.spaces.specs.FlagRows.{bytes_beneath, flags_over};
 ghost use Rattle.spaces.specs.Space.{IsChanged};
