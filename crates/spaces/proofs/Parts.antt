@@ -367,9 +367,9 @@ flags_are (cell ∷ cells) = ap₂ (λ x xs. x ∷ xs) (sym (flag_is cell)) (fla
 
 -- bytes or flags with that of one cell more
 pub cell_more :
-    {A : Type 0} (f : Option ℕ → ℕ) (content : A → Option ℕ) (cells : List A) (place : ℕ) (cell : A) (old new : List ℕ) (n : ℕ) → place < length cells → cell ≡ get_or cells place cell
-    → old ≡ map f (map content (take place cells)) → new ≡ old ++ n ∷ [] → n ≡ f (content cell) → new ≡ map f (map content (take (place + 1) cells))
-cell_more f content cells place cell old new n below is before more same =
+    (f : Option ℕ → ℕ) (cells : List (Option ℕ)) (place : ℕ) (old new : List ℕ) (n : ℕ) → place < length cells
+    → old ≡ map f (take place cells) → new ≡ old ++ n ∷ [] → n ≡ f (get_or cells place None) → new ≡ map f (take (place + 1) cells)
+cell_more f cells place old new n below before more same =
     more
-    ∙ ap₂ (λ xs x. xs ++ x ∷ []) before (same ∙ ap (λ x. f (content x)) is)
-    ∙ sym (ap (map f) (map_more content cells place cell below) ∙ map-append f (map content (take place cells)) (content (get_or cells place cell) ∷ []))
+    ∙ ap₂ (λ xs x. xs ++ x ∷ []) before same
+    ∙ sym (map_more f cells place None below)

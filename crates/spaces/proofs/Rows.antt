@@ -6,32 +6,36 @@ use Rattle.clmodel.specs.Cells.{Cells, cells_of, byte_of, joined, number, unset_
 use Rattle.clmodel.proofs.CellLaws.{covers_parts, covers_from}
 use Rattle.clmodel.proofs.Steps.{decided}
 
--- a byte of a row
+-- a byte of a row, and of one whose cells are read by a function
+pub cell_at : (cells : List (Option ℕ)) (k : ℕ) (d : Option ℕ) → k < length cells → cells_of cells k ≡ get_or cells k d
+cell_at [] k d h = absurd (omega (arith, h))
+cell_at (cell ∷ cells) zero d h = refl
+cell_at (cell ∷ cells) (suc k) d h = cell_at cells k d (omega (arith, h))
+
 pub row_at : {A : Type 0} (f : A → Option ℕ) (cells : List A) (k : ℕ) (d : A) → k < length cells → cells_of (map f cells) k ≡ f (get_or cells k d)
 row_at f [] k d h = absurd (omega (arith, h))
 row_at f (cell ∷ cells) zero d h = refl
 row_at f (cell ∷ cells) (suc k) d h = row_at f cells k d (omega (arith, h))
 
 -- no byte behind it
-pub row_past : {A : Type 0} (f : A → Option ℕ) (cells : List A) (k : ℕ) → length cells ≤ k → cells_of (map f cells) k ≡ None
-row_past f [] k h = refl
-row_past f (cell ∷ cells) zero h = absurd (omega (arith, h))
-row_past f (cell ∷ cells) (suc k) h = row_past f cells k (omega (arith, h))
+pub row_past : (cells : List (Option ℕ)) (k : ℕ) → length cells ≤ k → cells_of cells k ≡ None
+row_past [] k h = refl
+row_past (cell ∷ cells) zero h = absurd (omega (arith, h))
+row_past (cell ∷ cells) (suc k) h = row_past cells k (omega (arith, h))
 
 -- another byte is as it was where one is set
-pub row_set_other :
-    {A : Type 0} (f : A → Option ℕ) (cells : List A) (k : ℕ) (cell : A) (byte : ℕ) → (byte ≡ k → ⊥) → cells_of (map f (set cells k cell)) byte ≡ cells_of (map f cells) byte
-row_set_other f [] k cell byte h = refl
-row_set_other f (c ∷ cells) zero cell zero h = absurd (h refl)
-row_set_other f (c ∷ cells) zero cell (suc byte) h = refl
-row_set_other f (c ∷ cells) (suc k) cell zero h = refl
-row_set_other f (c ∷ cells) (suc k) cell (suc byte) h = row_set_other f cells k cell byte (λ e. h (ap suc e))
+pub row_set_other : (cells : List (Option ℕ)) (k : ℕ) (cell : Option ℕ) (byte : ℕ) → (byte ≡ k → ⊥) → cells_of (set cells k cell) byte ≡ cells_of cells byte
+row_set_other [] k cell byte h = refl
+row_set_other (c ∷ cells) zero cell zero h = absurd (h refl)
+row_set_other (c ∷ cells) zero cell (suc byte) h = refl
+row_set_other (c ∷ cells) (suc k) cell zero h = refl
+row_set_other (c ∷ cells) (suc k) cell (suc byte) h = row_set_other cells k cell byte (λ e. h (ap suc e))
 
 -- the byte that is set
-pub row_set_same : {A : Type 0} (f : A → Option ℕ) (cells : List A) (k : ℕ) (cell : A) → k < length cells → cells_of (map f (set cells k cell)) k ≡ f cell
-row_set_same f [] k cell h = absurd (omega (arith, h))
-row_set_same f (c ∷ cells) zero cell h = refl
-row_set_same f (c ∷ cells) (suc k) cell h = row_set_same f cells k cell (omega (arith, h))
+pub row_set_same : (cells : List (Option ℕ)) (k : ℕ) (cell : Option ℕ) → k < length cells → cells_of (set cells k cell) k ≡ cell
+row_set_same [] k cell h = absurd (omega (arith, h))
+row_set_same (c ∷ cells) zero cell h = refl
+row_set_same (c ∷ cells) (suc k) cell h = row_set_same cells k cell (omega (arith, h))
 
 -- the powers that a number's bytes are taken with
 byte_power : (k n : ℕ) → k ≤ n → 256 ^ k ≤ 256 ^ n

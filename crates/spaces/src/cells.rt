@@ -12,10 +12,6 @@ pub trait Cell: Copy {
     /// The byte, if it is set.
     fn byte(self) -> Option<u8>
         ensures { result ≡ content self };
-
-    /// A byte that is set.
-    fn set(byte: u8) -> Self
-        ensures { content result ≡ Some byte };
 }
 
 impl Cell for u8 {
@@ -24,10 +20,6 @@ impl Cell for u8 {
     fn byte(self) -> Option<u8> {
         Some(self)
     }
-
-    fn set(byte: u8) -> Self {
-        byte
-    }
 }
 
 impl Cell for Option<u8> {
@@ -35,10 +27,6 @@ impl Cell for Option<u8> {
 
     fn byte(self) -> Option<u8> {
         self
-    }
-
-    fn set(byte: u8) -> Self {
-        Some(byte)
     }
 }
 
@@ -68,14 +56,14 @@ pub fn read<C: Cell>(cells: &[C], first: usize, count: usize) -> Result<u64, Uns
 }
 
 /// Puts the low n bytes of a value into a row.
-pub fn put<C: Cell>(cells: &mut [C], first: usize, count: usize, value: u64)
+pub fn put(cells: &mut [Option<u8>], first: usize, count: usize, value: u64)
     requires short { count ≤ 8 }
     requires inside { first + count ≤ length cells.old }
     ensures same_length { length cells.new ≡ length cells.old }
-    ensures bytes { (byte : ℕ) → cells_of (map C.content cells.new) byte ≡ written (cells_of (map C.content cells.old)) first count value byte }
+    ensures bytes { (byte : ℕ) → cells_of cells.new byte ≡ written (cells_of cells.old) first count value byte }
 {
     if count > 0 {
-        cells[first] = C::set((value % 256) as u8);
+        cells[first] = Some((value % 256) as u8);
         put(cells, first + 1, count - 1, value / 256);
     }
 }

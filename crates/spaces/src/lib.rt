@@ -6,7 +6,7 @@
 //! it was. `perform` does an operation whole and answers it, or leaves the space and says why. `first_byte` is an
 //! element's first byte exactly where the element is in range.
 //!
-//! `Plain`, `LocalMem` and `PrivateArray` have bytes of their own, and `ConstView` is a view that isn't written. An
+//! `BufferMem`, `LocalMem` and `PrivateArray` have bytes of their own, and `ConstView` is a view that isn't written. An
 //! `Overlay` is a group's view of a buffer: it reads the buffer, and keeps the pages of 256 bytes that the group
 //! changes. It obeys the laws of a space, and the buffer itself stays. `changed` names pages outside of which nothing
 //! was changed. `Changes` are pages that lend nothing: they are made over a buffer that stays, and then written into it
@@ -37,6 +37,6 @@ pub use constant::ConstView;
 pub use operations::{first_byte, perform};
 pub use overlay::Overlay;
 pub use part_overlay::PartOverlay;
-pub use row::{BufferMem, LocalMem, Plain, PrivateArray};
+pub use row::{BufferMem, LocalMem, PrivateArray};
 pub use space::{Space, SpaceFault};
 pub use table::Table;

@@ -1,11 +1,11 @@
 //! Bytes in a row.
 
-ghost use Rattle.std.specs.Prelude.{◌≡◌, ◌<◌, Some, None, map, length, replicate, false, if◌then◌else◌, slice_get, is_some, unwrap_or, IfOk};
+ghost use Rattle.std.specs.Prelude.{◌≡◌, ◌<◌, None, length, replicate, false, if◌then◌else◌, slice_get, is_some, unwrap_or, IfOk};
 ghost use Rattle.clmodel.specs.Cells.{cells_of, is_flagged, held_cells};
 ghost use Rattle.spaces.specs.FlagRows.{bytes_beneath, flags_over};
 ghost use Rattle.spaces.specs.Space.{IsChanged};
 
-use crate::cells::{Cell, fetched, is_inside, put, read, updated_word};
+use crate::cells::{fetched, is_inside, put, read, updated_word};
 use crate::space::{Space, SpaceFault};
 use clmodel::access::{Class, FetchOp, Width};
 use clmodel::outcome::Contents;
@@ -15,30 +15,27 @@ use std::marker::Model;
 
 /// A space with cells of its own, each for a byte.
 #[derive(Drop)]
-pub struct Row<C: Cell> {
-    cells: Vec<C>,
+pub struct Row {
+    cells: Vec<Option<u8>>,
 }
 
-impl<C: Cell> Model for Row<C> {
-    ghost use Rattle.std.specs.Prelude.{ℕ, List, Option, map};
+impl Model for Row {
+    ghost use Rattle.std.specs.Prelude.{ℕ, List, Option};
 
     ghost Value = { List (Option ℕ) };
 
-    ghost view = { λ row. map C.content row.cells.items };
+    ghost view = { λ row. row.cells.items };
 }
 
-/// Bytes that are all set: what a buffer holds (OpenCL 1.2, section 5.2.1).
-pub type Plain = Row<u8>;
-
 /// A local object of a work-group: its bytes are unset at the start of the group (OpenCL 1.2, section 6.5.2).
-pub type LocalMem = Row<Option<u8>>;
+pub type LocalMem = Row;
 
 /// A private array of a work-item: its bytes are unset when it is made and after each execution of its declaration
 /// (OpenCL 1.2, section 6.5.4; C99 6.2.4).
-pub type PrivateArray = Row<Option<u8>>;
+pub type PrivateArray = Row;
 
 /// A buffer some of whose bytes may be unset (OpenCL 1.2, section 5.2.1; C99 6.7.8).
-pub type BufferMem = Row<Option<u8>>;
+pub type BufferMem = Row;
 
 /// A byte of a buffer beside its flags, nothing where it is unset.
 fn cell_at(bytes: &[u8], flags: &[u8], place: usize) -> Option<u8>
@@ -63,24 +60,24 @@ fn held_by(alloc: Global, bytes: &[u8], flags: &[u8]) -> Result<Vec<Option<u8>>,
 }
 
 /// A byte, 0 where it is unset.
-fn byte_of<C: Cell>(cell: C) -> u8
-    ensures { result ≡ unwrap_or (C.content cell) 0 }
+fn byte_of(cell: Option<u8>) -> u8
+    ensures { result ≡ unwrap_or cell 0 }
 {
-    cell.byte().unwrap_or(0)
+    cell.unwrap_or(0)
 }
 
 /// Its flag, which isn't 0 where it is unset.
-fn flag_of<C: Cell>(cell: C) -> u8
-    ensures { result ≡ (if is_some (C.content cell) then 0 else 1) }
+fn flag_of(cell: Option<u8>) -> u8
+    ensures { result ≡ (if is_some cell then 0 else 1) }
 {
-    if cell.byte().is_some() { 0 } else { 1 }
+    if cell.is_some() { 0 } else { 1 }
 }
 
 /// Bytes and their flags that hold this: an unset byte is 0. An error is out of memory.
-fn contents_of<C: Cell>(alloc: Global, cells: &[C]) -> Result<Contents, AllocError>
-    ensures cells { IfOk result (λ contents. held_cells contents.bytes contents.flags ≡ map C.content cells.now) }
-    ensures bytes { IfOk result (λ contents. contents.bytes ≡ bytes_beneath (map C.content cells.now)) }
-    ensures flags { IfOk result (λ contents. contents.flags ≡ flags_over (map C.content cells.now)) }
+fn contents_of(alloc: Global, cells: &[Option<u8>]) -> Result<Contents, AllocError>
+    ensures cells { IfOk result (λ contents. held_cells contents.bytes contents.flags ≡ cells.now) }
+    ensures bytes { IfOk result (λ contents. contents.bytes ≡ bytes_beneath cells.now) }
+    ensures flags { IfOk result (λ contents. contents.flags ≡ flags_over cells.now) }
 {
     let mut bytes = Vec::with_capacity(alloc, cells.len())?;
     let mut flags = Vec::with_capacity(alloc, cells.len())?;
@@ -94,23 +91,7 @@ fn contents_of<C: Cell>(alloc: Global, cells: &[C]) -> Result<Contents, AllocErr
     })
 }
 
-impl Row<u8> {
-    /// A space of these bytes.
-    pub fn new(bytes: Vec<u8>) -> Self
-        ensures { result ≡ map Some bytes.items }
-    {
-        Row { cells: bytes }
-    }
-
-    /// Its bytes.
-    pub fn into_bytes(self) -> Vec<u8>
-        ensures { map Some result.items ≡ self }
-    {
-        self.cells
-    }
-}
-
-impl Row<Option<u8>> {
+impl Row {
     /// n unset bytes. An error is out of memory.
     pub fn new(alloc: Global, size: usize) -> Result<Self, AllocError>
         ensures { IfOk result (λ row. row ≡ replicate size None) }
@@ -135,9 +116,7 @@ impl Row<Option<u8>> {
     {
         self.cells.as_mut_slice().fill(None);
     }
-}
 
-impl<C: Cell> Row<C> {
     /// Its bytes, and a flag for each. An error is out of memory.
     pub fn into_contents(self, alloc: Global) -> Result<Contents, AllocError>
         ensures cells { IfOk result (λ contents. held_cells contents.bytes contents.flags ≡ self) }
@@ -159,7 +138,7 @@ impl<C: Cell> Row<C> {
         ensures { result ≡ cells_of self.now byte }
     {
         match self.cells.get(byte) {
-            Some(cell) => cell.byte(),
+            Some(cell) => *cell,
             None => None,
         }
     }
@@ -180,7 +159,7 @@ impl<C: Cell> Row<C> {
     }
 }
 
-impl<C: Cell> Space for Row<C> {
+impl Space for Row {
     ghost bytes = { λ row. row };
 
     ghost read_only = { false };

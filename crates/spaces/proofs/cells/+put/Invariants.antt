@@ -1,4 +1,4 @@
 use Rattle.spaces.proofs.cells.+put.Given as goal
 
 abbrev pub decreases-put : goal.decreases-put
-decreases-put g l = l.count
+decreases-put l = l.count
