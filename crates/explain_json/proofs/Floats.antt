@@ -62,7 +62,7 @@ memory_whole m =
 step_whole : (s : ToldEvent) → has_float (step_data s) ≡ false
 step_whole (step.Release event group code) = rw (some code_data (λ c. refl) code)
 step_whole (step.Item event item does memory byte bytes value left code) = rw (some code_data (λ c. refl) code, some value_data (λ v. refl) value, some value_data (λ v. refl) left)
-step_whole (step.Omitted event events) = refl
+step_whole (step.Omitted event events items) = rw (number_or_null (first_of items), number_or_null (last_of items))
 
 launch_whole : (l : LaunchFacts) → has_float (launch_data l) ≡ false
 launch_whole l = rw (numbers l.global_size.items, numbers l.local_size.items, numbers l.offset.items)
