@@ -18,7 +18,7 @@ use Rattle.explanation.specs.declared.told.LaunchFacts.{LaunchFacts}
 use Rattle.explanation.specs.declared.told.Memory.{Memory}
 use Rattle.explanation.specs.declared.told.NamedItem.{NamedItem}
 use Rattle.explanation.specs.declared.told.ParameterFacts.{ParameterFacts}
-use Rattle.explain_json.specs.Members.{number_data, or_null, call_data, loop_data, spot_data, code_data, barrier_data, item_data, left_data, parameter_data, group_of, element_data, memory_data, value_data, step_data, launch_data, explanation_data}
+use Rattle.explain_json.specs.Members.{first_of, last_of, number_data, or_null, call_data, loop_data, spot_data, code_data, barrier_data, item_data, left_data, parameter_data, group_of, element_data, memory_data, value_data, step_data, launch_data, explanation_data}
 use Rattle.explain_json.specs.Reasons.{AreReasons, loop_turns_data, other_loops_data, reason_data, reasons_data, stored_data}
 use Rattle.explain_json.specs.RefusalMembers.{hints_data, refusal_data}
 
