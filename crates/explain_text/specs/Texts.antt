@@ -114,11 +114,14 @@ numbered_line number words = codes "  " ++ padded_integral (format_spec 32 3 0 6
 abbrev pub more_line : ℕ → List ℕ
 more_line count = codes "      ..  " ++ decimal count ++ codes " more\n"
 
--- of which items events are: of one, of the lowest up to the highest, or of none
+-- of which items events are: of one, or of some from the lowest up to the highest; of none
+abbrev pub span_text : ItemSpan → List ℕ
+span_text span =
+    if span.lowest == span.highest then codes ", of item " ++ decimal span.lowest else codes ", of items " ++ decimal span.lowest ++ codes " to " ++ decimal span.highest
+
 abbrev pub items_text : Option ItemSpan → List ℕ
 items_text None = []
-items_text (Some span) =
-    if span.lowest == span.highest then codes ", of item " ++ decimal span.lowest else codes ", of items " ++ decimal span.lowest ++ codes " to " ++ decimal span.highest
+items_text (Some span) = span_text span
 
 -- a line that says how many events are left out, and of which items
 abbrev pub left_out_line : ℕ → Option ItemSpan → List ℕ

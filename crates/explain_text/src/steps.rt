@@ -2,7 +2,7 @@
 #![tactic(auto)]
 
 ghost use Rattle.std.specs.Prelude.{◌≡◌, ◌+◌, ◌<◌, ◌≤◌, ◌++◌, length, string_bytes, IfOk, IfSome, IsSome, IsTrue, OnOk};
-ghost use Rattle.explain_text.specs.Texts.{AddsEvent, AddsShown, AreEvents, AreSteps, IsOneLine, items_text, left_out_line, more_line, number_of, numbered_line};
+ghost use Rattle.explain_text.specs.Texts.{AddsEvent, AddsShown, AreEvents, AreSteps, IsOneLine, items_text, left_out_line, more_line, number_of, numbered_line, span_text};
 
 use crate::lines::{one_line, push_line};
 use clmodel::access::AccessKind;
@@ -89,17 +89,25 @@ fn push_more(count: u64, out: &mut String) -> Result<(), AllocError>
     write!(out, "      ..  {count} more\n")
 }
 
-/// Adds of which items events are.
-fn push_items(items: Option<ItemSpan>, out: &mut String) -> Result<(), AllocError>
-    ensures { OnOk result (string_bytes out.new ≡ string_bytes out.old ++ items_text items) }
+/// Adds that events are of one item, or of some from one up to another.
+fn push_span(span: ItemSpan, out: &mut String) -> Result<(), AllocError>
+    ensures { OnOk result (string_bytes out.new ≡ string_bytes out.old ++ span_text span) }
 {
-    let Some(ItemSpan { lowest, highest }) = items else {
-        return Ok(());
-    };
+    let (lowest, highest) = (span.lowest, span.highest);
     if lowest == highest {
         write!(out, ", of item {lowest}")
     } else {
         write!(out, ", of items {lowest} to {highest}")
+    }
+}
+
+/// Adds of which items events are, if they are of any.
+fn push_items(items: Option<ItemSpan>, out: &mut String) -> Result<(), AllocError>
+    ensures { OnOk result (string_bytes out.new ≡ string_bytes out.old ++ items_text items) }
+{
+    match items {
+        Some(span) => push_span(span, out),
+        None => Ok(()),
     }
 }
 
