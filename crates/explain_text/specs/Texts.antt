@@ -115,17 +115,17 @@ abbrev pub more_line : ℕ → List ℕ
 more_line count = codes "      ..  " ++ decimal count ++ codes " more\n"
 
 -- of which items events are: of one, or of some from the lowest up to the highest; of none
-abbrev pub span_text : ItemSpan → List ℕ
-span_text span =
+abbrev pub span_words : ItemSpan → List ℕ
+span_words span =
     if span.lowest == span.highest then codes ", of item " ++ decimal span.lowest else codes ", of items " ++ decimal span.lowest ++ codes " to " ++ decimal span.highest
 
-abbrev pub items_text : Option ItemSpan → List ℕ
-items_text None = []
-items_text (Some span) = span_text span
+abbrev pub items_words : Option ItemSpan → List ℕ
+items_words None = []
+items_words (Some span) = span_words span
 
 -- a line that says how many events are left out, and of which items
 abbrev pub left_out_line : ℕ → Option ItemSpan → List ℕ
-left_out_line count items = (codes "      ..  " ++ decimal count ++ codes " left out") ++ items_text items ++ codes "\n"
+left_out_line count items = (codes "      ..  " ++ decimal count ++ codes " left out") ++ items_words items ++ codes "\n"
 
 -- an event that is told in words behind its number, or events that are only counted
 pub data Shown : Type 0 where

@@ -2,7 +2,7 @@
 #![tactic(auto)]
 
 ghost use Rattle.std.specs.Prelude.{◌≡◌, ◌+◌, ◌<◌, ◌≤◌, ◌++◌, length, string_bytes, IfOk, IfSome, IsSome, IsTrue, OnOk};
-ghost use Rattle.explain_text.specs.Texts.{AddsEvent, AddsShown, AreEvents, AreSteps, IsOneLine, items_text, left_out_line, more_line, number_of, numbered_line, span_text};
+ghost use Rattle.explain_text.specs.Texts.{AddsEvent, AddsShown, AreEvents, AreSteps, IsOneLine, items_words, left_out_line, more_line, number_of, numbered_line, span_words};
 
 use crate::lines::{one_line, push_line};
 use clmodel::access::AccessKind;
@@ -91,7 +91,7 @@ fn push_more(count: u64, out: &mut String) -> Result<(), AllocError>
 
 /// Adds that events are of one item, or of some from one up to another.
 fn push_span(span: ItemSpan, out: &mut String) -> Result<(), AllocError>
-    ensures { OnOk result (string_bytes out.new ≡ string_bytes out.old ++ span_text span) }
+    ensures { OnOk result (string_bytes out.new ≡ string_bytes out.old ++ span_words span) }
 {
     let (lowest, highest) = (span.lowest, span.highest);
     if lowest == highest {
@@ -103,7 +103,7 @@ fn push_span(span: ItemSpan, out: &mut String) -> Result<(), AllocError>
 
 /// Adds of which items events are, if they are of any.
 fn push_items(items: Option<ItemSpan>, out: &mut String) -> Result<(), AllocError>
-    ensures { OnOk result (string_bytes out.new ≡ string_bytes out.old ++ items_text items) }
+    ensures { OnOk result (string_bytes out.new ≡ string_bytes out.old ++ items_words items) }
 {
     match items {
         Some(span) => push_span(span, out),
