@@ -13,4 +13,4 @@ returns-in-Item c =
 pub returns-in-Release : goal.returns-in-Release
 returns-in-Release c =
     λ events of.
-    subst (λ (e : Event). AreOf (items_of (events ++ e ∷ [])) c.args.items) (sym c.in-Release.is) (of_release events c.in-Release.group c.args.items of)
+    subst (λ (e : Event). AreOf (items_of (events ++ e ∷ [])) c.args.items) (sym c.in-Release.is) (of_release events c.in-Release.field-0 c.args.items of)

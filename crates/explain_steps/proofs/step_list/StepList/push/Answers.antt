@@ -44,4 +44,4 @@ pub returns-in-None-clause-held : goal.returns-in-None-clause-held
 returns-in-None-clause-held c =
     λ before held.
     let old = c.args.self.now in
-    held_more before c.args.event old (record { steps = old.steps; omitted = old.omitted + 1; items = c.span_with_event.result }) refl refl c.span_with_event.ensures held
+    held_more before c.args.event old (record { steps = old.steps; omitted = old.omitted + 1; items = c.span_with_event-self.result }) refl refl c.span_with_event-self.ensures held
