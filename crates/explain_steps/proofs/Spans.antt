@@ -122,7 +122,6 @@ part_alone e (told.Release event group code) h = refl
 part_alone e (told.Item event item does memory byte bytes value left code) h = refl
 part_alone e (told.Omitted event events items) h = absurd (false≢true (sym h))
 
-
 parts_more : (parts : List (List Event)) (part : List Event) → flat_map (λ part. part) (parts ++ part ∷ []) ≡ flat_map (λ part. part) parts ++ part
 parts_more parts part =
     flat_map-append (λ part. part) parts (part ∷ []) ∙ ap (λ l. flat_map (λ part. part) parts ++ l) (flat_map-cons (λ part. part) part [] ∙ append-nil part)
