@@ -7,8 +7,8 @@ name, and a picture of the schedule, a lane a work-item. The status is 0, or 2 w
 
 
 from reading import (
-    Files, argument_texts, events_of, explanations, file_of, is_refusal, item_text, memory_text, place_of, reason_texts,
-    run, step_words, title_of,
+    Files, argument_texts, events_of, explanations, file_of, is_refusal, item_text, left_out_text, memory_text, place_of,
+    reason_texts, run, step_words, title_of,
 )
 
 # the picture: how far lanes and events stand from one another, and where the first ones stand, in pixels
@@ -180,13 +180,23 @@ def spans(numbers):
     return ", ".join(texts[:4]) + (" and others" if texts[4:] else "")
 
 
-def fold_text(events, first, last):
+def cut_steps(whole, events, first, last):
+    """The steps that count events between two that are drawn, each cut to what is there."""
+    for step in whole["steps"]:
+        begin, end = max(first, step["event"]), min(last + 1, step["event"] + step.get("omitted", 0))
+        count = sum(number not in events for number in range(begin, end))
+        if count:
+            yield {**step, "omitted": count}
+
+
+def fold_text(whole, events, first, last):
     """What a row says of the events between two that are drawn."""
     folded = [events[number] for number in range(first, last + 1) if number in events]
     items, releases = [step["item"] for step in folded if "item" in step], len([it for it in folded if "release" in it])
     parts = [f"{len(items)} of item{'s' * (len(set(items)) > 1)} {spans(set(items))}"] if items else []
     parts += [f"{releases} barrier{'s' * (releases > 1)}"] if releases else []
-    parts += [f"{last - first + 1 - len(folded)} that aren't told"] if len(folded) <= last - first else []
+    cut = list(cut_steps(whole, events, first, last))
+    parts += [left_out_text(cut)] if cut else []
     return f"event {first}: {parts[0]}" if first == last else f"events {first} to {last}: {', '.join(parts)}"
 
 
@@ -213,7 +223,7 @@ def picture(whole):
     rows = shown_rows(whole, events, ROWS - bool(going))
     lanes = {item: LEFT + LANE * place
              for place, item in enumerate(lanes_of(whole, {it: events[it] for it in rows if it in events}))}
-    folds = {row: fold_text(events, *row) for row in rows if row not in events}
+    folds = {row: fold_text(whole, events, *row) for row in rows if row not in events}
     wide = max([LEFT + LANE * max(1, len(lanes)) + 40, *(8 * len(text) for text in folds.values())])
     high = TOP + ROW * (len(rows) + bool(going))
     parts = [f'<svg width="{wide}" height="{high}" role="img" aria-label="schedule">']

@@ -147,6 +147,17 @@ def events_of(whole):
     return dict(sorted(found.items()))
 
 
+def left_out_text(steps):
+    """How many events some steps count that aren't told, and of which work-items, as the text form has it.
+    (JSON of an earlier clsim doesn't name these.)"""
+    count = sum(step["omitted"] for step in steps)
+    ends = [step[name] for step in steps for name in ("first_item", "last_item") if step.get(name) is not None]
+    if not ends:
+        return f"{count} left out"
+    first, last = min(ends), max(ends)
+    return f"{count} left out, of item {first}" if first == last else f"{count} left out, of items {first} to {last}"
+
+
 def text_of(line):
     """The bytes of a line as an explanation tells them: of a line that is no UTF-8 with `?` for each byte beyond
     ASCII."""

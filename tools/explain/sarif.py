@@ -10,8 +10,8 @@ import json
 import re
 
 from reading import (
-    Files, argument_texts, events_of, explanations, file_of, is_refusal, item_text, place_of, reason_texts, run,
-    step_words,
+    Files, argument_texts, events_of, explanations, file_of, is_refusal, item_text, left_out_text, place_of,
+    reason_texts, run, step_words,
 )
 
 SCHEMA = "https://json.schemastore.org/sarif-2.1.0.json"
@@ -192,7 +192,9 @@ def result(whole):
         found["relatedLocations"] = [{"id": number, **place} for number, place in enumerate(places[1:], 1)]
     threads = flows(whole, files)
     if threads:
-        found["codeFlows"] = [{"message": {"text": "schedule " + whole["schedule"]["short"]}, "threadFlows": threads}]
+        counted = [step for step in whole["steps"] if "omitted" in step]
+        words = ["schedule " + whole["schedule"]["short"], *([left_out_text(counted)] if counted else [])]
+        found["codeFlows"] = [{"message": {"text": "; ".join(words)}, "threadFlows": threads}]
     return found
 
 

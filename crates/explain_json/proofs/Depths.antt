@@ -18,7 +18,7 @@ use Rattle.explanation.specs.declared.told.LaunchFacts.{LaunchFacts}
 use Rattle.explanation.specs.declared.told.Memory.{Memory}
 use Rattle.explanation.specs.declared.told.NamedItem.{NamedItem}
 use Rattle.explanation.specs.declared.told.ParameterFacts.{ParameterFacts}
-use Rattle.explain_json.specs.Members.{left_data, number_data, or_null, call_data, loop_data, spot_data, code_data, barrier_data, item_data, parameter_data, group_of, element_data, memory_data, value_data, step_data, launch_data, explanation_data}
+use Rattle.explain_json.specs.Members.{first_of, last_of, left_data, number_data, or_null, call_data, loop_data, spot_data, code_data, barrier_data, item_data, parameter_data, group_of, element_data, memory_data, value_data, step_data, launch_data, explanation_data}
 use Rattle.explain_json.specs.Reasons.{AreReasons, loop_turns_data, other_loops_data, reason_data, reasons_data, stored_data}
 
 pub many : {A : Type 0} (f : A → Data) (n : ℕ) → ((x : A) → depth (f x) ≤ n) → (xs : List A) → items_depth (items_of (map f xs)) ≤ n
@@ -89,7 +89,10 @@ step_depth (step.Item event item does memory byte bytes value left code) =
     let found : depth (or_null value_data value) ≤ 0 = some value_data 0 (λ v. omega arith) value in
     let stays : depth (or_null value_data left) ≤ 0 = some value_data 0 (λ v. omega arith) left in
     omega arith
-step_depth (step.Omitted event events) = omega arith
+step_depth (step.Omitted event events items) =
+    let first : depth (or_null number_data (first_of items)) ≤ 0 = some number_data 0 number_depth (first_of items) in
+    let last : depth (or_null number_data (last_of items)) ≤ 0 = some number_data 0 number_depth (last_of items) in
+    omega arith
 
 launch_depth : (l : LaunchFacts) → depth (launch_data l) ≤ 2
 launch_depth l =

@@ -18,7 +18,7 @@ use Rattle.explanation.specs.declared.told.LaunchFacts.{LaunchFacts}
 use Rattle.explanation.specs.declared.told.Memory.{Memory}
 use Rattle.explanation.specs.declared.told.NamedItem.{NamedItem}
 use Rattle.explanation.specs.declared.told.ParameterFacts.{ParameterFacts}
-use Rattle.explain_json.specs.Members.{number_data, or_null, call_data, loop_data, spot_data, code_data, barrier_data, item_data, left_data, parameter_data, group_of, element_data, memory_data, value_data, step_data, launch_data, explanation_data}
+use Rattle.explain_json.specs.Members.{first_of, last_of, number_data, or_null, call_data, loop_data, spot_data, code_data, barrier_data, item_data, left_data, parameter_data, group_of, element_data, memory_data, value_data, step_data, launch_data, explanation_data}
 use Rattle.explain_json.specs.Reasons.{AreReasons, loop_turns_data, other_loops_data, reason_data, reasons_data, stored_data}
 use Rattle.explain_json.specs.RefusalMembers.{hints_data, refusal_data}
 
@@ -62,7 +62,7 @@ memory_whole m =
 step_whole : (s : ToldEvent) → has_float (step_data s) ≡ false
 step_whole (step.Release event group code) = rw (some code_data (λ c. refl) code)
 step_whole (step.Item event item does memory byte bytes value left code) = rw (some code_data (λ c. refl) code, some value_data (λ v. refl) value, some value_data (λ v. refl) left)
-step_whole (step.Omitted event events) = refl
+step_whole (step.Omitted event events items) = rw (number_or_null (first_of items), number_or_null (last_of items))
 
 launch_whole : (l : LaunchFacts) → has_float (launch_data l) ≡ false
 launch_whole l = rw (numbers l.global_size.items, numbers l.local_size.items, numbers l.offset.items)

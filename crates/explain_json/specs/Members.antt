@@ -12,6 +12,7 @@ use Rattle.explanation.specs.declared.places.NodeKind.{NodeKind}
 use Rattle.explanation.specs.declared.places.NodeKind.TheVariants as node
 use Rattle.explanation.specs.declared.places.Spot.{Spot}
 use Rattle.explanation.specs.declared.steps.Code.{Code}
+use Rattle.explanation.specs.declared.steps.ItemSpan.{ItemSpan}
 use Rattle.explanation.specs.declared.steps.ScheduleFacts.{ScheduleFacts}
 use Rattle.explanation.specs.declared.steps.ToldEvent.{ToldEvent}
 use Rattle.explanation.specs.declared.steps.ToldEvent.TheVariants as step
@@ -142,6 +143,15 @@ schedule_data s =
 abbrev pub value_data : ℕ → Data
 value_data value = string (decimal value)
 
+-- the lowest and the highest of some items, if there are any
+abbrev pub first_of : Option ItemSpan → Option ℕ
+first_of None = None
+first_of (Some span) = Some span.lowest
+
+abbrev pub last_of : Option ItemSpan → Option ℕ
+last_of None = None
+last_of (Some span) = Some span.highest
+
 abbrev pub step_data : ToldEvent → Data
 step_data (step.Release event group code) =
     object (member (codes "event") (number_data event) (member (codes "place") (or_null code_data code) (member (codes "release") (number_data group) no_members)))
@@ -149,7 +159,9 @@ step_data (step.Item event item does memory byte bytes value left code) =
     object (member (codes "byte") (number_data byte) (member (codes "bytes") (number_data bytes) (member (codes "does") (string (kind_text does))
     (member (codes "event") (number_data event) (member (codes "item") (number_data item) (member (codes "left") (or_null value_data left) (member (codes "memory") (text_data memory)
     (member (codes "place") (or_null code_data code) (member (codes "value") (or_null value_data value) no_members)))))))))
-step_data (step.Omitted event events) = object (member (codes "event") (number_data event) (member (codes "omitted") (number_data events) no_members))
+step_data (step.Omitted event events items) =
+    object (member (codes "event") (number_data event) (member (codes "first_item") (or_null number_data (first_of items)) (member (codes "last_item") (or_null number_data (last_of items))
+    (member (codes "omitted") (number_data events) no_members))))
 
 -- The whole.
 

@@ -3,11 +3,11 @@
 
 ghost use Rattle.std.specs.Prelude.{◌≡◌, IfOk};
 ghost use Rattle.serde_json.specs.View.{view};
-ghost use Rattle.explain_json.specs.Members.{or_null, value_data, schedule_data, step_data};
+ghost use Rattle.explain_json.specs.Members.{first_of, last_of, or_null, value_data, schedule_data, step_data};
 
 use crate::object::Object;
 use crate::values::ToJson;
-use explanation::{ScheduleFacts, ToldEvent};
+use explanation::{ItemSpan, ScheduleFacts, ToldEvent};
 use fault_lines::kind_word;
 use serde_json::Value;
 use std::alloc::{AllocError, Global};
@@ -34,6 +34,17 @@ fn text_or_null(alloc: Global, number: Option<u64>) -> Result<Value, AllocError>
     match number {
         Some(number) => Ok(Value::String(format!(in alloc; "{number}")?)),
         None => Ok(Value::Null),
+    }
+}
+
+/// The lowest and the highest of some items, if there are any.
+fn ends_of(items: Option<ItemSpan>) -> (Option<u32>, Option<u32>)
+    ensures first { result.0 ≡ first_of items }
+    ensures last { result.1 ≡ last_of items }
+{
+    match items {
+        Some(span) => (Some(span.lowest), Some(span.highest)),
+        None => (None, None),
     }
 }
 
@@ -72,9 +83,16 @@ impl ToJson for ToldEvent {
                     .with("byte", byte)
                     .finish()
             }
-            ToldEvent::Omitted { event, events } => {
+            ToldEvent::Omitted {
+                event,
+                events,
+                items,
+            } => {
+                let (first, last) = ends_of(*items);
                 Object::new(alloc)
                     .with("omitted", events)
+                    .with("last_item", &last)
+                    .with("first_item", &first)
                     .with("event", event)
                     .finish()
             }

@@ -1,3 +1,4 @@
 mod ByteSets
 mod Events
+mod Spans
 mod StepRows

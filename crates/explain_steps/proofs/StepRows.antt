@@ -6,6 +6,7 @@ use Rattle.std.proofs.lemmas.Grind.{flat_map-append}
 use Rattle.std.proofs.lemmas.List.{append-nil, length-append, length-replicate, map-append, replicate_more}
 use Rattle.std.proofs.lemmas.List.Sums.{sum_by-cons}
 use Rattle.std.proofs.lemmas.List.Concat.{flat_map-cons}
+use Rattle.explanation.specs.declared.steps.ItemSpan.{ItemSpan}
 use Rattle.explanation.specs.declared.steps.ToldEvent.{ToldEvent}
 use Rattle.explanation.specs.declared.steps.ToldEvent.TheVariants as told
 use Rattle.fault_play.specs.declared.marks.Mark.{Mark}
@@ -25,7 +26,7 @@ zip_append R (x ∷ xs) xs' (y ∷ ys) ys' h k = (h.0, zip_append R xs xs' ys ys
 entries_alone : (step : ToldEvent) → is_omitted step ≡ false → entries step ≡ Some step ∷ []
 entries_alone (told.Release event group code) h = refl
 entries_alone (told.Item event item does memory byte bytes value left code) h = refl
-entries_alone (told.Omitted event events) h = absurd (false≢true (sym h))
+entries_alone (told.Omitted event events items) h = absurd (false≢true (sym h))
 
 entries_more : (steps : List ToldEvent) (step : ToldEvent) → flat_map entries (steps ++ step ∷ []) ≡ flat_map entries steps ++ entries step
 entries_more steps step = flat_map-append entries steps (step ∷ []) ∙ ap (λ l. flat_map entries steps ++ l) (flat_map-cons entries step [] ∙ append-nil (entries step))
@@ -52,19 +53,19 @@ shown_length list =
     let r : length (replicate {A = Option ToldEvent} list.omitted None) ≡ list.omitted = length-replicate list.omitted None in omega (arith, l, r)
 
 -- a step of all of them
-pub omitted_shown : (steps : List ToldEvent) (event events : ℕ) → flat_map entries (steps ++ told.Omitted event events ∷ []) ≡ flat_map entries steps ++ replicate events None
-omitted_shown steps event events = entries_more steps (told.Omitted event events)
+pub omitted_shown : (steps : List ToldEvent) (event events : ℕ) (items : Option ItemSpan) → flat_map entries (steps ++ told.Omitted event events items ∷ []) ≡ flat_map entries steps ++ replicate events None
+omitted_shown steps event events items = entries_more steps (told.Omitted event events items)
 
 pub omitted_row : (list : StepList) (event : ℕ) → 0 < list.omitted → event ≡ length (shown_of list) - list.omitted + 1 → IsRow list
-    → EndsRow (nat_lt 0 list.omitted) (list.steps.items ++ told.Omitted event list.omitted ∷ [])
+    → EndsRow (nat_lt 0 list.omitted) (list.steps.items ++ told.Omitted event list.omitted list.items ∷ [])
 omitted_row list event some is row =
     let l : length (shown_of list) ≡ length (flat_map entries list.steps.items) + list.omitted = shown_length list in
     let r : length (replicate {A = Option ToldEvent} list.omitted None) ≡ list.omitted = length-replicate list.omitted None in
     record {
       in_row =
-          row_more false 0 list.steps.items (told.Omitted event list.omitted) row.in_row
+          row_more false 0 list.steps.items (told.Omitted event list.omitted list.items) row.in_row
           (record { numbered = omega (arith, is, l, some); some = omega (arith, r, some); apart = λ _. row.ends });
-      ends = ends_more false list.steps.items (told.Omitted event list.omitted) ∙ sym (lt-ltb 0 list.omitted some);
+      ends = ends_more false list.steps.items (told.Omitted event list.omitted list.items) ∙ sym (lt-ltb 0 list.omitted some);
     }
 
 -- where there are none

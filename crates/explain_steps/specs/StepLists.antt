@@ -1,12 +1,12 @@
 -- Steps that are put together, event by event (own).
-use Rattle.std.specs.Prelude.{◌≡◌, ◌++◌, ⊤, ℕ, Bool, true, false, Option, None, List, [], ◌∷◌, is_some, replicate}
-use Rattle.std.specs.List.{flat_map}
+use Rattle.std.specs.Prelude.{◌≡◌, ◌++◌, ⊤, ℕ, Bool, true, false, Option, None, List, [], ◌∷◌, is_some, length, replicate}
+use Rattle.std.specs.List.{AllZip, flat_map}
 use Rattle.clmodel.specs.declared.schedule.Event.{Event}
 use Rattle.clmodel.specs.declared.schedule.Event.TheVariants as event
 use Rattle.explanation.specs.declared.steps.ToldEvent.{ToldEvent}
 use Rattle.fault_play.specs.declared.marks.Mark.{Mark}
 use Rattle.fault_play.specs.declared.played.Touch.{Touch}
-use Rattle.explain_steps.specs.Steps.{AreInRow, entries, is_omitted, number_of}
+use Rattle.explain_steps.specs.Steps.{AreInRow, AreOf, IsPart, entries, is_omitted, items_of, number_of}
 use Rattle.explain_steps.specs.declared.step_list.StepList.{StepList}
 
 -- an event is a release, or its access is known
@@ -42,3 +42,12 @@ pub record EndsRow (is_last_omitted : Bool) (steps : List ToldEvent) : Type 0 wh
 -- behind the last step that is told come the events that aren't told
 abbrev pub IsRow : StepList → Type 0
 IsRow list = EndsRow false list.steps.items
+
+-- events, cut into those of each step and those behind the last one, which aren't told
+pub record AreHeld (events : List Event) (list : StepList) : Type 0 where
+  pub parts : List (List Event)
+  pub behind : List Event
+  pub each : AllZip IsPart parts list.steps.items
+  pub counted : length behind ≡ list.omitted
+  pub of_items : AreOf (items_of behind) list.items
+  pub whole : events ≡ flat_map (λ part. part) parts ++ behind

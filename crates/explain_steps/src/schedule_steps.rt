@@ -6,8 +6,8 @@ ghost use Rattle.std.specs.List.{AllZip, flat_map};
 ghost use Rattle.clmodel.specs.Setup.{group_items};
 ghost use Rattle.item_step.specs.Launches.{setup_of};
 ghost use Rattle.explain_steps.specs.Chosen.{events_made};
-ghost use Rattle.explain_steps.specs.StepLists.{AreKnown, EndsRow, IsAlone, IsRow, is_known, shown_of};
-ghost use Rattle.explain_steps.specs.Steps.{AreInRow, AreSteps, IsEntry, IsStep, entries, followed_of, left_of, memory_words, number_of, value_of};
+ghost use Rattle.explain_steps.specs.StepLists.{AreHeld, AreKnown, EndsRow, IsAlone, IsRow, is_known, shown_of};
+ghost use Rattle.explain_steps.specs.Steps.{AreInRow, AreSpanned, AreSteps, IsEntry, IsStep, entries, followed_of, left_of, memory_words, number_of, value_of};
 
 use crate::chosen::{Followed, access_of, mark_at, told_events, with_event};
 use crate::step_list::StepList;
@@ -142,6 +142,7 @@ fn told_steps(
     ensures row { IfOk result (λ steps. AreInRow false 0 steps.items) }
     ensures told { IfOk result (λ steps. AllZip IsEntry (events_made 0 played.now.marks.items played.now.touches.items) (flat_map entries steps.items)) }
     ensures same { IfOk result (λ steps. map is_some (flat_map entries steps.items) ≡ told.now) }
+    ensures spanned { IfOk result (λ steps. AreSpanned (map (λ mark. mark.event) played.now.marks.items) steps.items) }
 {
     let (marks, touches) = (played.marks.as_slice(), played.touches.as_slice());
     let mut list = StepList::new(context.alloc);
@@ -151,7 +152,7 @@ fn told_steps(
         let touch = access_of(mark.event, touches, accesses);
         let is_told = is_told(told, number);
         let step = step_of(context, number as u64 + 1, mark, touch, is_told)?;
-        list.push(number, step)?;
+        list.push(number, mark.event, step)?;
         accesses = with_event(accesses, mark.event);
     }
     list.push_omitted(marks.len())?;

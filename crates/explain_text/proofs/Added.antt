@@ -5,6 +5,7 @@ use Rattle.std.proofs.lemmas.Bool.{cases_lt, false≢true}
 use Rattle.std.proofs.lemmas.Grind.{flat_map-append}
 use Rattle.std.proofs.lemmas.List.{append-nil}
 use Rattle.std.proofs.lemmas.List.Elements.{All-append, All-cons, All-nil}
+use Rattle.explanation.specs.declared.steps.ItemSpan.{ItemSpan}
 use Rattle.explanation.specs.declared.steps.ToldEvent.{ToldEvent}
 use Rattle.explanation.specs.declared.steps.ToldEvent.TheVariants as told
 use Rattle.explain_text.specs.Texts.{AddsEvent, AddsLines, AddsShown, AreEvents, AreLines, Covers, IsEvent, IsOneLine, LeftOut, More, Shown, Step, left_out_line, more_line, number_of, numbered_line, shown_line}
@@ -53,7 +54,7 @@ covers_more : (steps : List ToldEvent) (a b c : ℕ) (xs ys : List Shown) → Co
 covers_more steps a b c [] ys h k = subst (λ (n : ℕ). Covers steps n ys c) (sym h) k
 covers_more steps a b c (Step number words ∷ xs) ys h k = (h.0, h.1, covers_more steps (a + 1) b c xs ys h.2 k)
 covers_more steps a b c (More count ∷ xs) ys h k = (h.0, covers_more steps (a + count) b c xs ys h.1 k)
-covers_more steps a b c (LeftOut count ∷ xs) ys h k = (h.0, covers_more steps (a + 1) b c xs ys h.1 k)
+covers_more steps a b c (LeftOut count items ∷ xs) ys h k = (h.0, covers_more steps (a + 1) b c xs ys h.1 k)
 
 pub no_steps : (steps : List ToldEvent) (n : ℕ) (text : List ℕ) → AddsShown steps n n text text
 no_steps steps n text = ([], record { shown = []; covers = refl; whole = refl }, sym (append-nil text))
@@ -83,10 +84,11 @@ pub more_added : (steps : List ToldEvent) (at to count : ℕ) (old new : List �
 more_added steps at to count old new is are e =
     (more_line count, record { shown = More count ∷ []; covers = (are, is); whole = sym (append-nil (more_line count)) }, e)
 
-pub left_out_added : (steps : List ToldEvent) (at event count : ℕ) (old new : List ℕ) → slice_get steps at ≡ Some (told.Omitted event count) → new ≡ old ++ left_out_line count
+pub left_out_added :
+    (steps : List ToldEvent) (at event count : ℕ) (items : Option ItemSpan) (old new : List ℕ) → slice_get steps at ≡ Some (told.Omitted event count items) → new ≡ old ++ left_out_line count items
     → AddsShown steps at (at + 1) old new
-left_out_added steps at event count old new here e =
-    (left_out_line count, record { shown = LeftOut count ∷ []; covers = ((event, here), refl); whole = sym (append-nil (left_out_line count)) }, e)
+left_out_added steps at event count items old new here e =
+    (left_out_line count items, record { shown = LeftOut count items ∷ []; covers = ((event, here), refl); whole = sym (append-nil (left_out_line count items)) }, e)
 
 -- the same steps, where their places are told otherwise
 pub steps_same : (steps : List ToldEvent) (a b b' : ℕ) (old new : List ℕ) → b ≡ b' → AddsShown steps a b old new → AddsShown steps a b' old new

@@ -5,6 +5,7 @@ use Rattle.std.specs.Fmt.{format_spec, padded_integral}
 use Rattle.std.specs.List.{AllZip, flat_map}
 use Rattle.explanation.specs.declared.places.Spot.{Spot}
 use Rattle.explanation.specs.declared.reasons.Reason.{Reason}
+use Rattle.explanation.specs.declared.steps.ItemSpan.{ItemSpan}
 use Rattle.explanation.specs.declared.steps.ToldEvent.{ToldEvent}
 use Rattle.explanation.specs.declared.steps.ToldEvent.TheVariants as told
 use Rattle.explanation.specs.declared.told.Explanation.{Explanation}
@@ -109,46 +110,56 @@ pub record AreSentences (why : List Reason) (text : List ℕ) : Type 0 where
 abbrev pub numbered_line : ℕ → List ℕ → List ℕ
 numbered_line number words = codes "  " ++ padded_integral (format_spec 32 3 0 6 (2 ^ 64 - 1)) false [] (decimal number) ++ codes "  " ++ words ++ codes "\n"
 
--- a line that says how many more events of an item there are, and one that says how many events are left out
+-- a line that says how many more events of an item there are
 abbrev pub more_line : ℕ → List ℕ
 more_line count = codes "      ..  " ++ decimal count ++ codes " more\n"
 
-abbrev pub left_out_line : ℕ → List ℕ
-left_out_line count = codes "      ..  " ++ decimal count ++ codes " left out\n"
+-- of which items events are: of one, or of some from the lowest up to the highest; of none
+abbrev pub span_words : ItemSpan → List ℕ
+span_words span =
+    if span.lowest == span.highest then codes ", of item " ++ decimal span.lowest else codes ", of items " ++ decimal span.lowest ++ codes " to " ++ decimal span.highest
+
+abbrev pub items_words : Option ItemSpan → List ℕ
+items_words None = []
+items_words (Some span) = span_words span
+
+-- a line that says how many events are left out, and of which items
+abbrev pub left_out_line : ℕ → Option ItemSpan → List ℕ
+left_out_line count items = (codes "      ..  " ++ decimal count ++ codes " left out") ++ items_words items ++ codes "\n"
 
 -- an event that is told in words behind its number, or events that are only counted
 pub data Shown : Type 0 where
   Step : ℕ → List ℕ → Shown
   More : ℕ → Shown
-  LeftOut : ℕ → Shown
+  LeftOut : ℕ → Option ItemSpan → Shown
 
 abbrev pub shown_line : Shown → List ℕ
 shown_line (Step number words) = numbered_line number words
 shown_line (More count) = more_line count
-shown_line (LeftOut count) = left_out_line count
+shown_line (LeftOut count items) = left_out_line count items
 
 -- the number of a step's event, if it is one, and not events that are only counted
 abbrev pub number_of : ToldEvent → Option ℕ
 number_of (told.Item event item does memory byte bytes value left code) = Some event
 number_of (told.Release event group code) = Some event
-number_of (told.Omitted event events) = None
+number_of (told.Omitted event events items) = None
 
--- the step at a place is the event of a number; is any one event; is so many events
+-- the step at a place is the event of a number; is any one event; is so many events of such items
 abbrev pub IsEvent : List ToldEvent → ℕ → ℕ → Type 0
 IsEvent steps at number = (step : ToldEvent) × (slice_get steps at ≡ Some step) × (number_of step ≡ Some number)
 
 abbrev pub AreEvents : List ToldEvent → ℕ → ℕ → Type 0
 AreEvents steps from to = (at : ℕ) → from ≤ at → at < to → (number : ℕ) × IsEvent steps at number
 
-abbrev pub AreLeftOut : List ToldEvent → ℕ → ℕ → Type 0
-AreLeftOut steps at count = (event : ℕ) × (slice_get steps at ≡ Some (told.Omitted event count))
+abbrev pub AreLeftOut : List ToldEvent → ℕ → ℕ → Option ItemSpan → Type 0
+AreLeftOut steps at count items = (event : ℕ) × (slice_get steps at ≡ Some (told.Omitted event count items))
 
 -- the steps from one place up to another, in their order, each told by its number or counted
 abbrev pub Covers : List ToldEvent → ℕ → List Shown → ℕ → Type 0
 Covers steps from [] to = from ≡ to
 Covers steps from (Step number words ∷ shown) to = IsEvent steps from number × IsOneLine words × Covers steps (from + 1) shown to
 Covers steps from (More count ∷ shown) to = AreEvents steps from (from + count) × Covers steps (from + count) shown to
-Covers steps from (LeftOut count ∷ shown) to = AreLeftOut steps from count × Covers steps (from + 1) shown to
+Covers steps from (LeftOut count items ∷ shown) to = AreLeftOut steps from count items × Covers steps (from + 1) shown to
 
 pub record AreShown (steps : List ToldEvent) (from to : ℕ) (text : List ℕ) : Type 0 where
   pub shown : List Shown

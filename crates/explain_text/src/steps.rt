@@ -2,11 +2,11 @@
 #![tactic(auto)]
 
 ghost use Rattle.std.specs.Prelude.{◌≡◌, ◌+◌, ◌<◌, ◌≤◌, ◌++◌, length, string_bytes, IfOk, IfSome, IsSome, IsTrue, OnOk};
-ghost use Rattle.explain_text.specs.Texts.{AddsEvent, AddsShown, AreEvents, AreSteps, IsOneLine, left_out_line, more_line, number_of, numbered_line};
+ghost use Rattle.explain_text.specs.Texts.{AddsEvent, AddsShown, AreEvents, AreSteps, IsOneLine, items_words, left_out_line, more_line, number_of, numbered_line, span_words};
 
 use crate::lines::{one_line, push_line};
 use clmodel::access::AccessKind;
-use explanation::{Code, Explanation, ScheduleFacts, ToldEvent};
+use explanation::{Code, Explanation, ItemSpan, ScheduleFacts, ToldEvent};
 use std::alloc::{AllocError, Global};
 use std::fmt::Write;
 
@@ -89,11 +89,35 @@ fn push_more(count: u64, out: &mut String) -> Result<(), AllocError>
     write!(out, "      ..  {count} more\n")
 }
 
-/// Adds a line that says how many events are left out.
-fn push_left_out(count: u64, out: &mut String) -> Result<(), AllocError>
-    ensures { OnOk result (string_bytes out.new ≡ string_bytes out.old ++ left_out_line count) }
+/// Adds that events are of one item, or of some from one up to another.
+fn push_span(span: ItemSpan, out: &mut String) -> Result<(), AllocError>
+    ensures { OnOk result (string_bytes out.new ≡ string_bytes out.old ++ span_words span) }
 {
-    write!(out, "      ..  {count} left out\n")
+    let (lowest, highest) = (span.lowest, span.highest);
+    if lowest == highest {
+        write!(out, ", of item {lowest}")
+    } else {
+        write!(out, ", of items {lowest} to {highest}")
+    }
+}
+
+/// Adds of which items events are, if they are of any.
+fn push_items(items: Option<ItemSpan>, out: &mut String) -> Result<(), AllocError>
+    ensures { OnOk result (string_bytes out.new ≡ string_bytes out.old ++ items_words items) }
+{
+    match items {
+        Some(span) => push_span(span, out),
+        None => Ok(()),
+    }
+}
+
+/// Adds a line that says how many events are left out, and of which items.
+fn push_left_out(count: u64, items: Option<ItemSpan>, out: &mut String) -> Result<(), AllocError>
+    ensures { OnOk result (string_bytes out.new ≡ string_bytes out.old ++ left_out_line count items) }
+{
+    write!(out, "      ..  {count} left out")?;
+    push_items(items, out)?;
+    write!(out, "\n")
 }
 
 /// Adds an event in words, behind its number.
@@ -124,7 +148,7 @@ fn push_step(
     match step {
         ToldEvent::Item { event, .. } => push_event(alloc, *event, step, out),
         ToldEvent::Release { event, .. } => push_event(alloc, *event, step, out),
-        ToldEvent::Omitted { events, .. } => push_left_out(*events, out),
+        ToldEvent::Omitted { events, items, .. } => push_left_out(*events, *items, out),
     }
 }
 

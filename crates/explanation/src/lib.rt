@@ -14,7 +14,7 @@ pub use places::{CallSite, LoopSite, NodeKind, Spot};
 pub use reasons::{
     BudgetUse, CountedTurns, FencedMemory, LoopTurns, OtherLoops, Reason, StoredBytes,
 };
-pub use steps::{Code, ScheduleFacts, ToldEvent};
+pub use steps::{Code, ItemSpan, ScheduleFacts, ToldEvent};
 pub use told::{
     Does, Explanation, FaultFacts, Ids, LaunchFacts, Memory, MemoryKind, NamedItem, ParameterFacts,
 };

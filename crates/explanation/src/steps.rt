@@ -30,6 +30,13 @@ pub struct Code {
     pub text: String,
 }
 
+/// The lowest and the highest of some work-items.
+#[derive(Clone, Copy)]
+pub struct ItemSpan {
+    pub lowest: u32,
+    pub highest: u32,
+}
+
 /// A step of a schedule: an event that is told, which is an access of an item or the release of a group from a barrier;
 /// or events in a row that are only counted. Each has the number of its event, from 1.
 #[derive(Drop)]
@@ -54,9 +61,10 @@ pub enum ToldEvent {
         group: u32,
         code: Option<Code>,
     },
-    /// The number of the first one, and how many they are
+    /// The number of the first one, how many they are, and of which items, where some are of items
     Omitted {
         event: u64,
         events: u64,
+        items: Option<ItemSpan>,
     },
 }

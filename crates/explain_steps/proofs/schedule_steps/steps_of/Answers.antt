@@ -35,6 +35,7 @@ returns c =
     record {
       in_row = c.in_ok-steps.ensures.row;
       told = c.in_ok-steps.ensures.told;
+      spanned = c.in_ok-steps.ensures.spanned;
       few = omega (arith, counted, flags, few);
       chosen =
           subst (λ (f : Followed). AreChosen f most events (map is_some shown)) c.followed_in-followed.ensures

@@ -2,14 +2,16 @@ use Rattle.std.proofs.Common.{◌≡◌, ◌+◌, ◌<◌, ◌≤◌, ◌&&◌, 
 use Rattle.std.specs.List.{AllZip}
 use Rattle.std.proofs.lemmas.List.{take_all}
 use Rattle.std.proofs.lemmas.Option.{get_or_from_slice_get}
+use Rattle.clmodel.specs.declared.schedule.Event.{Event}
 use Rattle.explanation.specs.declared.steps.ToldEvent.{ToldEvent}
 use Rattle.fault_play.specs.PlayedOut.{is_access}
 use Rattle.fault_play.specs.declared.marks.Mark.{Mark}
 use Rattle.fault_play.specs.declared.played.Touch.{Touch}
 use Rattle.explain_steps.specs.Chosen.{access_of, events_made}
-use Rattle.explain_steps.specs.StepLists.{AreKnown, is_known, shown_of}
+use Rattle.explain_steps.specs.StepLists.{AreHeld, AreKnown, is_known, shown_of}
 use Rattle.explain_steps.specs.Steps.{IsEntry}
 use Rattle.explain_steps.proofs.Events.{count_next, events_next, known_next, one_at_most, take_next}
+use Rattle.explain_steps.proofs.Spans.{held_next, spanned_held}
 use Rattle.explain_steps.proofs.StepRows.{flags_more, told_more}
 use Rattle.explain_steps.proofs.schedule_steps.told_steps.Goals as goal
 
@@ -26,6 +28,7 @@ loop-number-init c =
       told = subst (λ (l : List (Option ToldEvent)). AllZip IsEntry [] l) (sym nothing) tt;
       same = ap (map is_some) nothing;
       row = c.new-list.ensures.row;
+      held = c.new-list.ensures.held;
       known =
           subst (λ (l : List Touch). AreKnown (events_made 0 xs l) flags) (sym c.as_slice-touches.ensures.value)
           (subst (λ (l : List Mark). AreKnown (events_made 0 l played.touches.items) flags) (sym c.as_slice-marks.ensures.value) c.requires.known);
@@ -68,6 +71,7 @@ loop-number-preserved c =
           (told_more (events_made 0 (take i xs) ts) mark touch old new step c.loop-number.invariant.told entry shown);
       same = flags_more flags old new step i flag (is_known mark.event touch) c.loop-number.invariant.same shown some knows.0 (take_next flags i flag inside flagged);
       row = c.in_ok-push.ensures.row c.loop-number.invariant.row;
+      held = held_next xs i mark c.push.new.self within here (c.in_ok-push.ensures.held (map (λ m. m.event) (take i xs)) c.loop-number.invariant.held);
       known = knows.1;
     }
 
@@ -85,6 +89,15 @@ returns-clause-told c =
     subst (λ (l : List (Option ToldEvent)). AllZip IsEntry (events_made 0 played.marks.items played.touches.items) l) (sym c.in_ok-push_omitted.ensures.shown)
     (subst (λ (l : List Touch). AllZip IsEntry (events_made 0 played.marks.items l) shown) c.as_slice-touches.ensures.value
     (subst (λ (l : List Mark). AllZip IsEntry (events_made 0 l ts) shown) all c.loop-number.invariant.told))
+
+pub returns-clause-spanned : goal.returns-clause-spanned
+returns-clause-spanned c =
+    let xs = c.as_slice-marks.result.now in
+    let f : Mark → Event = λ m. m.event in
+    let list = c.push_omitted.new.self in
+    let all = take_all c.loop-number.number xs (omega (arith, c.loop-number-test.false)) ∙ c.as_slice-marks.ensures.value in
+    spanned_held (map f c.args.played.now.marks.items) list c.in_ok-push_omitted.ensures.nothing
+    (subst (λ (l : List Event). AreHeld l list) (ap (map f) all) (c.in_ok-push_omitted.ensures.held (map f (take c.loop-number.number xs)) c.loop-number.invariant.held))
 
 pub returns-clause-same : goal.returns-clause-same
 returns-clause-same c =

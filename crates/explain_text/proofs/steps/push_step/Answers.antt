@@ -29,5 +29,5 @@ returns-in-Omitted c =
     let here : slice_get xs c.args.at ≡ Some step = slice_get_read xs (length xs) c.args.at step refl c.requires c.index-steps-at.is in
     IfOk-weaker c.push_left_out.result _ _
     (λ _ h.
-    left_out_added xs c.args.at c.in-Omitted.event c.in-Omitted.events (string_bytes c.args.out.now) (string_bytes c.push_left_out.new.out)
+    left_out_added xs c.args.at c.in-Omitted.event c.in-Omitted.events c.in-Omitted.items (string_bytes c.args.out.now) (string_bytes c.push_left_out.new.out)
     (here ∙ ap (λ s. Some s) c.in-Omitted.is) h) c.push_left_out.ensures

@@ -1,4 +1,4 @@
-use Rattle.std.proofs.Common.{refl}
+use Rattle.std.proofs.Common.{refl, sym}
 use Rattle.explain_json.proofs.steps.ToldEventToJson.to_json.Goals as goal
 
 pub returns-in-Release : goal.returns-in-Release
@@ -20,6 +20,8 @@ returns-in-Item c = rw c.in-Item.is (c.finish-in-Item.ensures _ (
     c.with_value.ensures _ c.text_or_null.ensures _ tt c.new-in-Item.ensures))))))))))
 
 pub returns-in-Omitted : goal.returns-in-Omitted
-returns-in-Omitted c = rw c.in-Omitted.is (c.finish-in-Omitted.ensures _ (
+returns-in-Omitted c = rw (c.in-Omitted.is, sym c.ends_of.ensures.first, sym c.ends_of.ensures.last) (c.finish-in-Omitted.ensures _ (
+    c.with-in-Omitted-4.ensures _ refl (
+    c.with-in-Omitted-3.ensures _ refl (
     c.with-in-Omitted-2.ensures _ refl (
-    c.with-in-Omitted.ensures _ tt c.new-in-Omitted.ensures)))
+    c.with-in-Omitted.ensures _ tt c.new-in-Omitted.ensures)))))

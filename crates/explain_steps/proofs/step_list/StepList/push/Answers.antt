@@ -1,9 +1,10 @@
-use Rattle.std.proofs.Common.{◌≡◌, ◌+◌, ◌++◌, ◌∷◌, [], None, Option, List, Some, nat_lt, false, replicate, sym, subst}
+use Rattle.std.proofs.Common.{◌≡◌, ◌+◌, ◌++◌, ◌∷◌, [], None, Option, List, Some, nat_lt, false, replicate, refl, sym, subst}
 use Rattle.std.specs.List.{flat_map}
 use Rattle.std.specs.Option.{IfSome}
 use Rattle.explanation.specs.declared.steps.ToldEvent.{ToldEvent}
 use Rattle.explain_steps.specs.StepLists.{EndsRow, IsAlone, shown_of}
 use Rattle.explain_steps.specs.Steps.{entries}
+use Rattle.explain_steps.proofs.Spans.{held_more, held_told}
 use Rattle.explain_steps.proofs.StepRows.{shown_omitted, shown_told, told_row}
 use Rattle.explain_steps.proofs.step_list.StepList.push.Goals as goal
 
@@ -30,3 +31,17 @@ returns-in-None-clause-shown c =
     let old = c.args.self.now in
     subst (λ (o : Option ToldEvent). flat_map entries old.steps.items ++ replicate (old.omitted + 1) None ≡ shown_of old ++ o ∷ []) (sym c.in-None.is)
     (shown_omitted old.steps.items old.omitted)
+
+pub returns-in_ok-push-in-Some-clause-held : goal.returns-in_ok-push-in-Some-clause-held
+returns-in_ok-push-in-Some-clause-held c =
+    λ before held.
+    let alone = subst (λ (o : Option ToldEvent). IfSome o (IsAlone (c.args.events + 1))) c.in-Some.is c.requires.next in
+    let mid = c.push_omitted.new.self in
+    held_told before c.args.event mid (record { steps = c.push.new.self; omitted = mid.omitted; items = mid.items }) c.in-Some.step (c.args.events + 1) alone
+    c.in_ok-push_omitted-in-Some.ensures.nothing c.in_ok-push-in-Some.ensures.items refl refl (c.in_ok-push_omitted-in-Some.ensures.held before held)
+
+pub returns-in-None-clause-held : goal.returns-in-None-clause-held
+returns-in-None-clause-held c =
+    λ before held.
+    let old = c.args.self.now in
+    held_more before c.args.event old (record { steps = old.steps; omitted = old.omitted + 1; items = c.span_with_event-self.result }) refl refl c.span_with_event-self.ensures held
