@@ -84,6 +84,13 @@ fn take_launch(commands: &mut Vec<Command>, ticket: u64) -> Option<LaunchCommand
     launch_in(command)
 }
 
+/// Whether a refusal is that for want of memory.
+fn is_lack(refusal: &Refusal) -> bool
+    ensures { Decides result (refusal.now ≡ Refusal.OutOfMemory) }
+{
+    matches!(refusal, Refusal::OutOfMemory)
+}
+
 /// Whether a reply is the refusal for want of memory.
 fn lacked_memory(reply: &Reply) -> bool
     ensures { Decides result (reply.now ≡ Reply.Refused Refusal.OutOfMemory) }
@@ -161,7 +168,7 @@ fn judge(
     // A refusal's fault names the ticket, so no `From` can make it.
     match decide(alloc, &device, &launched, task) {
         Ok(yes) => Ok(yes),
-        Err(Refusal::OutOfMemory) => Err(RunFault::OutOfMemory),
+        Err(refusal) if is_lack(&refusal) => Err(RunFault::OutOfMemory),
         Err(_) => Err(RunFault::CommandRefused(task.ticket)),
     }
 }

@@ -1,4 +1,5 @@
-use Rattle.std.proofs.Common.{◌≡◌, refl, inl, inr, List, Some, subst, rules}
+use Rattle.std.proofs.Common.{◌≡◌, refl, inl, inr, List, Some, subst}
+use Rattle.std.proofs.lemmas.Bool.Decides.{not_from_Decides}
 use Rattle.device.specs.Machine.{Machine, IsRefusal, first, row, machine_of, opening}
 use Rattle.host_commands.specs.declared.command.Command.{Command}
 use Rattle.host_commands.specs.declared.command.Command.TheVariants as command
@@ -34,12 +35,12 @@ returns c = record {
       range = c.in-Some.launched.range;
       orders = c.in-Some.launched.orders;
       machine = machine_of c.in_ok-device.device;
-      refusal = c.in-Err.field-0;
+      refusal = c.in-Err.refusal;
       comes = record {
         launch = c.in-Some.ensures.launch;
         leads = subst (λ (done : List Command). Leads (opening c.args.configuration) done (machine_of c.in_ok-device.device)) c.in-Some.ensures.before c.in_ok-device.ensures;
       };
-      refused = by_row (machine_of c.in_ok-device.device) (command.Launch c.in-Some.launched.kernel c.in-Some.launched.range c.in-Some.launched.orders) c.in-Err.field-0 c.in-Err.ensures.refused (λ e. search rules);
+      refused = by_row (machine_of c.in_ok-device.device) (command.Launch c.in-Some.launched.kernel c.in-Some.launched.range c.in-Some.launched.orders) c.in-Err.refusal c.in-Err.ensures.refused (not_from_Decides c.is_lack.result c.is_lack.ensures c.if-is_lack.false);
     },
   );
 }
