@@ -20,7 +20,7 @@ returns-in-Item c = rw c.in-Item.is (c.finish-in-Item.ensures _ (
     c.with_value.ensures _ c.text_or_null.ensures _ tt c.new-in-Item.ensures))))))))))
 
 pub returns-in-Omitted : goal.returns-in-Omitted
-returns-in-Omitted c = rw (c.in-Omitted.is, sym c.ends_of.ensures.first, sym c.ends_of.ensures.last) (c.finish-in-Omitted.ensures _ (
+returns-in-Omitted c = rw (c.in-Omitted.is, sym c.ends_of-first.ensures.first, sym c.ends_of-first.ensures.last) (c.finish-in-Omitted.ensures _ (
     c.with-in-Omitted-4.ensures _ refl (
     c.with-in-Omitted-3.ensures _ refl (
     c.with-in-Omitted-2.ensures _ refl (
